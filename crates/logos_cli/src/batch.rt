@@ -1,4 +1,4 @@
-//! Expands several files into a folder. Called by `program`.
+//! Expands several files into a folder. Used by `program`.
 
 ghost use Rattle.std.specs.Prelude.{◌≡◌, ◌≢◌, ◌⊎◌, ◌≤◌, ◌++◌, ◌∷◌, [], ℕ, All, Contains, IfOk, IsTrue, List, MatchOption, OnOk, drop, false, map, true};
 ghost use Rattle.logos_cli.specs.Views.{Appends, AreCarriedOut, AreDenied, AreTouched, IsApart, IsOwnOutput, Keeps, OrderValue, requests_each, batch_value, batch_file_order, has_twins, is_among, order_into, order_value, orders_into, orders_of, output_text, texts_of};
@@ -12,7 +12,7 @@ use logos_token::error::Memory;
 use std::alloc::Global;
 use std::io::{IsTerminal, Write};
 
-/// A file to expand.
+/// A file to expand, with the path of its result.
 #[derive(Drop)]
 struct BatchFile<'w> {
     /// The path of the file.
@@ -21,10 +21,10 @@ struct BatchFile<'w> {
     output: String,
 }
 
-/// Expands files, and writes each result into a folder, under the name of its file. If a file is
-/// refused or fails, the others are still expanded. The exit status is the highest one of all
-/// files. If a result would overwrite an input or another result, the exit status is 2, and nothing
-/// is read or written.
+/// Expands the files of a batch, and writes each result into the folder, under the name of its
+/// file. With `--check`, the results are only compared. If a file is refused or fails, the others
+/// are still expanded. The exit status is the highest one of all files. If a result would overwrite
+/// an input or another result, the exit status is 2, and nothing is read or written.
 pub(crate) fn run_batch<F: ComparableFiles, O: Write, E: Write + IsTerminal>(
     alloc: Global,
     batch: Batch<'_>,
@@ -63,7 +63,7 @@ pub(crate) fn run_batch<F: ComparableFiles, O: Write, E: Write + IsTerminal>(
     run_each(alloc, batch.order, &batch_files, files, out, err)
 }
 
-/// Returns the files to expand, with the paths of their results.
+/// Returns the files of a batch, with the paths of their results.
 fn batch_files_of<'w>(alloc: Global, batch: Batch<'w>) -> Result<Vec<BatchFile<'w>>, Memory>
     ensures { IfOk result (λ batch_files.
         orders_of (order_value batch.entry.order) batch_files.items ≡ batch_value batch.entry) }
@@ -72,7 +72,7 @@ fn batch_files_of<'w>(alloc: Global, batch: Batch<'w>) -> Result<Vec<BatchFile<'
     batch_files_at(alloc, batch, &paths)
 }
 
-/// Returns the files at these paths, with the paths of their results.
+/// Returns the files at the paths `paths`, with the paths of their results.
 fn batch_files_at<'w>(
     alloc: Global,
     batch: Batch<'w>,
@@ -89,7 +89,7 @@ fn batch_files_at<'w>(
     Ok(batch_files)
 }
 
-/// Appends the file at a path, with the path of its result.
+/// Appends the file at `path`, with the path of its result, to `batch_files`.
 fn push_batch_file<'w>(
     batch: Batch<'w>,
     path: &'w str,
@@ -104,7 +104,7 @@ fn push_batch_file<'w>(
     Ok(())
 }
 
-/// Returns a file to expand, with the path of its result in a folder.
+/// Returns the file at the path `input`, with the path of its result in `folder`.
 fn batch_file_of<'w>(alloc: Global, folder: &str, input: &'w str) -> Result<BatchFile<'w>, Memory>
     ensures { IfOk result (λ batch_file. (order : OrderValue) →
         batch_file_order order batch_file ≡ order_into order folder.now input.now) }
@@ -115,7 +115,7 @@ fn batch_file_of<'w>(alloc: Global, folder: &str, input: &'w str) -> Result<Batc
     Ok(BatchFile { input, output })
 }
 
-/// Returns the path of a result that leads to an input, if there is one.
+/// Returns the first path of a result that leads to an input, or `None` if there is none.
 fn own_output_in<'e, F: ComparableFiles>(
     batch_files: &'e [BatchFile<'_>],
     files: &F,
@@ -135,7 +135,7 @@ fn own_output_in<'e, F: ComparableFiles>(
     None
 }
 
-/// Returns whether a path leads to an input.
+/// Returns whether `path` leads to an input of the batch.
 fn is_input<F: ComparableFiles>(batch_files: &[BatchFile<'_>], path: &str, files: &F) -> bool
     ensures apart { result ≡ false →
         All (λ other. F.same_finds files.now other.input.now path.now false) batch_files.now }
@@ -150,7 +150,7 @@ fn is_input<F: ComparableFiles>(batch_files: &[BatchFile<'_>], path: &str, files
     false
 }
 
-/// Returns a path that two results share, if there is one.
+/// Returns the first path that two results share, or `None` if there is none.
 fn twin_in<'e>(batch_files: &'e [BatchFile<'_>]) -> Option<&'e str>
     ensures { MatchOption result (has_twins (map output_text batch_files.now) ≡ false)
         (λ path. has_twins (map output_text batch_files.now) ≡ true) }
@@ -164,7 +164,7 @@ fn twin_in<'e>(batch_files: &'e [BatchFile<'_>]) -> Option<&'e str>
     None
 }
 
-/// Returns whether a path is the path of a result.
+/// Returns whether `path` is the path of a result.
 fn is_output(batch_files: &[BatchFile<'_>], path: &str) -> bool
     ensures { result ≡ is_among path.now (map output_text batch_files.now) }
 {
@@ -176,7 +176,8 @@ fn is_output(batch_files: &[BatchFile<'_>], path: &str) -> bool
     false
 }
 
-/// Expands these files one after another, and writes their results.
+/// Expands the files of a batch one after another, and writes or compares their results. Returns
+/// the highest exit status, and whether all messages were written.
 fn run_each<F: ComparableFiles, O: Write, E: Write + IsTerminal>(
     alloc: Global,
     order: ExpandOrder<'_>,
@@ -210,7 +211,7 @@ fn run_each<F: ComparableFiles, O: Write, E: Write + IsTerminal>(
     ending
 }
 
-/// Returns the order for one file of a batch.
+/// Returns the order for one file of a batch, which has the settings of `order`.
 fn order_at<'e>(order: ExpandOrder<'_>, batch_file: &'e BatchFile<'_>) -> ExpandOrder<'e>
     ensures { order_value result ≡ batch_file_order (order_value order.entry) batch_file.now }
 {
@@ -225,7 +226,7 @@ fn order_at<'e>(order: ExpandOrder<'_>, batch_file: &'e BatchFile<'_>) -> Expand
     }
 }
 
-/// Returns the ending of two runs: the higher exit status, and whether the messages of both were
+/// Returns the ending of two files: the higher exit status, and whether the messages of both were
 /// written.
 fn joined(one: Ending, other: Ending) -> Ending
     ensures status { (result.status ≡ one.status) ⊎ (result.status ≡ other.status) }

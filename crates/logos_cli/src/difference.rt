@@ -1,4 +1,5 @@
-//! The difference between a file and the result with which it is compared. Called for `--check`.
+//! Describes the difference between a file and the result with which it is compared. Used by
+//! `program` for `--check`.
 
 ghost use Rattle.std.specs.Prelude.{⊤};
 ghost use Rattle.logos_cli.specs.Views.{FailsBy, IsRefusedFor};
@@ -15,26 +16,27 @@ const SHOWN_LINES: usize = 3;
 /// The maximum number of bytes of a line that are shown.
 const SHOWN_BYTES: usize = 100;
 
-/// The names of the shapes.
+/// The names of all shapes.
 const NAMES: [&str; 3] = ["tables", "tailcall", "state_machine"];
 
-/// A file that differs from the requested result.
+/// A file that is missing or differs from the requested result.
 #[derive(Clone, Copy)]
 pub(crate) struct StaleFile<'t> {
     /// The path of the file that was expanded.
     pub(crate) input: &'t str,
-    /// The path of the file that differs.
+    /// The path of the file that is missing or differs.
     pub(crate) path: &'t str,
     /// The shape of the result.
     pub(crate) shape: Shape,
-    /// The result of comparing the file with `made`.
+    /// The result of comparing the file with `made`, which is not `Same`.
     pub(crate) occurrence: Occurrence,
     /// The bytes of the requested result.
     pub(crate) made: &'t [u8],
 }
 
-/// Returns the refusal of a file that differs from the result. It shows the first lines that
-/// differ, and the shape that the file's first line names, if that is another one.
+/// Returns the refusal of a file that is missing or differs from the result. The refusal shows the
+/// first lines that differ, and the shape that the file's first line names, if that is another one.
+/// Returns `Memory` if memory runs out.
 pub(crate) fn difference<'w, F: ComparableFiles>(
     alloc: Global,
     stale: &StaleFile<'_>,
@@ -49,7 +51,7 @@ pub(crate) fn difference<'w, F: ComparableFiles>(
     refused(alloc, stale, &found)
 }
 
-/// Returns the refusal of a file with these bytes.
+/// Returns the refusal of a stale file with the bytes `found`, or `Memory` if memory runs out.
 fn refused<'w>(alloc: Global, stale: &StaleFile<'_>, found: &[u8]) -> Failure<'w>
     ensures { FailsBy (IsRefusedFor (λ shown. ⊤)) result }
 {
@@ -59,7 +61,8 @@ fn refused<'w>(alloc: Global, stale: &StaleFile<'_>, found: &[u8]) -> Failure<'w
     }
 }
 
-/// Returns the lines that describe the difference of a file with these bytes.
+/// Returns the lines that describe how the bytes `found` of a stale file differ. Only the first of
+/// them is returned if a text is not UTF-8.
 fn difference_text(
     alloc: Global,
     stale: &StaleFile<'_>,
@@ -88,8 +91,8 @@ fn push_what(page: &mut Page, stale: &StaleFile<'_>) {
     }
 }
 
-/// Appends the first lines of a file and of the result that differ, unless the file is empty or
-/// missing.
+/// Appends the first lines of a file and of the result from the first difference on, or nothing if
+/// the file is empty.
 fn push_lines(page: &mut Page, found: &str, made: &str) {
     if found.is_empty() {
         return;
@@ -106,7 +109,8 @@ fn push_lines(page: &mut Page, found: &str, made: &str) {
     push_both(page, number, rests.0, rests.1);
 }
 
-/// Returns both texts without their first lines, if these lines are equal.
+/// Returns both texts without their first lines if these are equal, otherwise `None`. A line
+/// without a line end equals none.
 fn after_same<'t>(found: &'t str, made: &'t str) -> Option<(&'t str, &'t str)> {
     let (one, found) = found.split_once('\n')?;
     let (other, made) = made.split_once('\n')?;
@@ -117,13 +121,15 @@ fn after_same<'t>(found: &'t str, made: &'t str) -> Option<(&'t str, &'t str)> {
     }
 }
 
-/// Appends the first lines of two texts. `number` is the number of the first line.
+/// Appends the first lines of `found` and of `made`. `number` is the number of the first line of
+/// each.
 fn push_both(page: &mut Page, number: usize, found: &str, made: &str) {
     push_side(page, " - ", number, found);
     push_side(page, " + ", number, made);
 }
 
-/// Appends the first lines of a text, each with its number and a sign.
+/// Appends the first lines of `text`, each after its number and `sign`. `number` is the number of
+/// the first line.
 fn push_side(page: &mut Page, sign: &str, number: usize, text: &str) {
     let mut rest = text;
     for line in 0..SHOWN_LINES {
@@ -137,7 +143,8 @@ fn push_side(page: &mut Page, sign: &str, number: usize, text: &str) {
     }
 }
 
-/// Returns the first line of a text and the rest after it, or `None` if the text is empty.
+/// Returns the first line of a text without its line end, and the rest after that, or `None` if the
+/// text is empty.
 fn first_line(text: &str) -> Option<(&str, &str)> {
     if text.is_empty() {
         return None;
@@ -148,7 +155,7 @@ fn first_line(text: &str) -> Option<(&str, &str)> {
     }
 }
 
-/// Appends a prefix of a line, and a line end.
+/// Appends a line of at most `SHOWN_BYTES` bytes, or its prefix and `..`, and a line end.
 fn push_cut(page: &mut Page, line: &str) {
     if let Some((front, rest)) = line.split_at_checked(line.floor_char_boundary(SHOWN_BYTES)) {
         page.push_shown(front);
@@ -159,7 +166,8 @@ fn push_cut(page: &mut Page, line: &str) {
     page.push("\n");
 }
 
-/// Appends the shape that a file's first line names, if that is not the one of the result.
+/// Appends the help about the shape that the first line of a file names, if that is not the one of
+/// the result.
 fn push_shape(page: &mut Page, found: &str, stale: &StaleFile<'_>) {
     let wanted = shape_name(stale.shape);
     match named_shape(found) {
@@ -176,7 +184,8 @@ fn push_shape(page: &mut Page, found: &str, stale: &StaleFile<'_>) {
     }
 }
 
-/// Returns the name of the shape that the first line of a file names, if it names a known one.
+/// Returns the name of the shape that the first line of `found` names, or `None` if it names no
+/// known shape.
 fn named_shape(found: &str) -> Option<&'static str> {
     let (line, _) = found.split_once('\n')?;
     let front = line.strip_suffix("; do not edit")?;

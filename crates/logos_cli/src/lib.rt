@@ -14,7 +14,8 @@ use logos_host::{Failure, SourceDisk};
 use logos_screen::ColorOutput;
 use program::run_with;
 
-/// Runs `logos_cli` with these arguments of the process. Returns the exit status.
+/// Runs `logos_cli` with `arguments`, which are those of the process or the failure to read these.
+/// Returns the exit status.
 pub fn run_logos_cli(rt: &HostRuntime, arguments: Result<Vec<String>, Failure<'static>>) -> u8
     requires { IfErr arguments (λ failure. (status_of failure ≡ 2) ⊎ (status_of failure ≡ 3)) }
     ensures usage { IfOk arguments.entry (λ passed.

@@ -1,4 +1,4 @@
-//! The request of `logos_cli`, read from its arguments. Used by `batch` and `program`.
+//! Reads the request of `logos_cli` from its arguments. Used by `batch` and `program`.
 
 ghost use Rattle.std.specs.Prelude.{◌≡◌, IfErr, IfOk, None, Some, is_some, map, option_map, string_bytes};
 ghost use Rattle.logos_cli.specs.Views.{arguments_value, requested, file_given, is_folder, named_shape, order_given, order_value, placed, request_given, request_value, shape_named, status_of};
@@ -10,13 +10,13 @@ use logos_options::{
 };
 use logos_tables::Shape;
 
-/// A request of `logos_cli`.
+/// A request of `logos_cli`: to print the help or the version, or to expand files.
 #[derive(Clone, Copy)]
 pub(crate) enum Request<'w> {
     Help,
     Version,
     Expand(ExpandOrder<'w>),
-    /// Expand files into a folder.
+    /// The order to expand files into a folder.
     ExpandEach(Batch<'w>),
 }
 
@@ -25,12 +25,11 @@ pub(crate) enum Request<'w> {
 pub(crate) struct ExpandOrder<'w> {
     /// The path of the file.
     pub(crate) input: &'w str,
-    /// The path of the file for the result. Without a path the result is written to standard
-    /// output.
+    /// The path of the file for the result, or `None` to write the result to standard output.
     pub(crate) output: Option<&'w str>,
-    /// Whether the file for the result is only compared with it.
+    /// Whether the file at `output` is only compared with the result.
     pub(crate) is_check: bool,
-    /// The shape of the lexers.
+    /// The shape of the generated code.
     pub(crate) shape: Shape,
     /// The format of messages.
     pub(crate) format: MessageFormat,
@@ -40,7 +39,7 @@ pub(crate) struct ExpandOrder<'w> {
     pub(crate) color: Color,
 }
 
-/// Files to expand into a folder.
+/// An order to expand several files into a folder.
 #[derive(Clone, Copy)]
 pub(crate) struct Batch<'w> {
     /// The arguments of the command line, which contain the paths of the files.
@@ -51,11 +50,12 @@ pub(crate) struct Batch<'w> {
     pub(crate) folder: &'w str,
 }
 
-/// Reads the arguments of `logos_cli`.
+/// Returns the request that the arguments of `logos_cli` make.
 ///
 /// # Errors
 ///
-/// Returns `Misuse` or `UnknownOption` if they are invalid.
+/// Returns `UnknownOption` if an argument is an unknown option, and `Misuse` if the arguments are
+/// invalid otherwise.
 pub(crate) fn request_of(arguments: &[String]) -> Result<Request<'_>, Failure<'_>>
     ensures requested { IfOk result (λ request.
         requested (map string_bytes arguments.now) ≡ Some (request_value request)) }
@@ -68,7 +68,7 @@ pub(crate) fn request_of(arguments: &[String]) -> Result<Request<'_>, Failure<'_
     }
 }
 
-/// Returns the request of arguments that were read.
+/// Returns the request that the parsed arguments make.
 fn request_given<'w>(
     arguments: &'w [String],
     parsed: Arguments<'w>,
@@ -87,7 +87,7 @@ fn request_given<'w>(
     }
 }
 
-/// Returns the request to expand files.
+/// Returns the request to expand files that the parsed arguments make. They must name a file.
 fn order_given<'w>(
     arguments: &'w [String],
     parsed: Arguments<'w>,
@@ -109,7 +109,8 @@ fn order_given<'w>(
     file_given(arguments, parsed, input, style)
 }
 
-/// Returns the request to expand files, with messages in this style.
+/// Returns the request to expand `input`, and other files if the arguments name some, with messages
+/// in the style `style`.
 fn file_given<'w>(
     arguments: &'w [String],
     parsed: Arguments<'w>,
@@ -143,7 +144,8 @@ fn file_given<'w>(
     placed(arguments, order, parsed.second)
 }
 
-/// Returns the request to expand one file, or several files into a folder.
+/// Returns the request to expand several files into a folder if `order` names one as the output,
+/// otherwise the request to expand one file. Refuses a second path without a folder.
 fn placed<'w>(
     arguments: &'w [String],
     order: ExpandOrder<'w>,
@@ -167,14 +169,14 @@ fn placed<'w>(
     }
 }
 
-/// Returns whether a path ends in `/`, and thus is the path of a folder.
+/// Returns whether `path` ends in `/`, and thus is the path of a folder.
 fn is_folder(path: &str) -> bool
     ensures { result ≡ is_folder path.now }
 {
     path.ends_with('/')
 }
 
-/// Returns whether there is a path.
+/// Returns whether `path` is `Some`.
 fn is_given(path: Option<&str>) -> bool
     ensures { result ≡ is_some (option_map (λ path. path.now) path.entry) }
 {
@@ -184,7 +186,7 @@ fn is_given(path: Option<&str>) -> bool
     }
 }
 
-/// Returns the shape with the given name, or `Tables` if none is given.
+/// Returns the shape with the name `name`, or `Tables` for `None`. Refuses an unknown name.
 fn shape_given<'w>(name: Option<&'w str>) -> Result<Shape, Failure<'w>>
     ensures shape { IfOk result (λ shape.
         named_shape (option_map (λ name. name.now) name.entry) ≡ Some shape) }
@@ -204,7 +206,7 @@ fn shape_given<'w>(name: Option<&'w str>) -> Result<Shape, Failure<'w>>
     }
 }
 
-/// Returns the shape with this name, if there is one.
+/// Returns the shape with the name `name`, or `None` if there is none.
 fn shape_by_name(name: &str) -> Option<Shape>
     ensures { result ≡ shape_named name.now }
 {

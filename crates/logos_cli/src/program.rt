@@ -1,4 +1,5 @@
-//! The program, from its arguments to an exit status. `run_logos_cli` and build scripts call it.
+//! Runs the program, from its arguments to its exit status. Used by `run_logos_cli`, `batch` and
+//! build scripts.
 
 ghost use Rattle.std.specs.Prelude.{◌≡◌, ◌≢◌, ◌≤◌, ◌++◌, ◌⊎◌, None, Some, MatchOption, false, true, IfErr, IfOk, IfSome, OnOk, ℕ, List, IsTrue, map, string_bytes};
 ghost use Rattle.logos_cli.specs.Views.{Appends, Keeps, status_of, message_of, Reads, requested, order_value, request_value, IsCarriedOut, IsDelivered, IsDenied, IsDeniedOrder, IsDone, IsApart, IsHarmless, IsOwnOutput, IsSettled, IsTouched, MayWrite, IsExpanded, FailsBy, IsRefusedFor, IsOther};
@@ -50,7 +51,7 @@ pub(crate) struct Ending {
 }
 
 /// Runs the program with its arguments, and returns the exit status of `run`. If the arguments
-/// cannot be read, the status is that of the failure.
+/// cannot be read, writes a message and returns the exit status of the failure.
 pub(crate) fn run_with<F: ComparableFiles, O: Write, E: Write + IsTerminal>(
     alloc: Global,
     arguments: Result<Vec<String>, Failure<'static>>,
@@ -134,7 +135,7 @@ pub(crate) fn run<F: ComparableFiles, O: Write, E: Write + IsTerminal>(
     }
 }
 
-/// Returns the ending of a run without warnings. After a failure, writes its message.
+/// Returns the ending of a request without warnings. Writes the message of a failure.
 fn ended<E: Write>(done: Result<(), Failure<'_>>, err: &mut E) -> Ending
     requires { IfErr done (λ failure. status_of failure ≡ 3) }
     ensures { (result.status ≡ 3) ⊎ (result.status ≡ 0) }
@@ -148,7 +149,7 @@ fn ended<E: Write>(done: Result<(), Failure<'_>>, err: &mut E) -> Ending
     }
 }
 
-/// Writes the message of a failure, and returns the ending of the program.
+/// Writes the message of a failure to standard error, and returns the ending of the program.
 pub(crate) fn failed<E: Write>(failure: &Failure<'_>, err: &mut E) -> Ending
     ensures status { result.status ≡ status_of failure.now }
     ensures written { IsTrue result.is_written → (usage : List ℕ) × Appends (E.contents err.old)
@@ -160,7 +161,8 @@ pub(crate) fn failed<E: Write>(failure: &Failure<'_>, err: &mut E) -> Ending
     }
 }
 
-/// Expands a file, and delivers the result, unless the output is the input.
+/// Expands the file of an order and delivers the result. If the output is the input, reads and
+/// writes no file, and ends with exit status 2.
 fn run_order<F: ComparableFiles, O: Write, E: Write + IsTerminal>(
     alloc: Global,
     order: ExpandOrder<'_>,
@@ -192,7 +194,8 @@ fn run_order<F: ComparableFiles, O: Write, E: Write + IsTerminal>(
     carry_out(alloc, order, files, out, err)
 }
 
-/// Expands a file, and delivers the result.
+/// Expands the file of an order and delivers the result, even if the output is the input. Writes
+/// warnings and the message of a failure to standard error.
 pub(crate) fn carry_out<F: ComparableFiles, O: Write, E: Write + IsTerminal>(
     alloc: Global,
     order: ExpandOrder<'_>,
@@ -219,7 +222,7 @@ pub(crate) fn carry_out<F: ComparableFiles, O: Write, E: Write + IsTerminal>(
     }
 }
 
-/// Returns the path of the file for the result, if it leads to the input.
+/// Returns the path of the file for the result if it leads to the input, otherwise `None`.
 fn own_output<'w, F: ComparableFiles>(order: ExpandOrder<'w>, files: &F) -> Option<&'w str>
     ensures { MatchOption result
         (IfSome (order_value order.entry).output
@@ -233,7 +236,8 @@ fn own_output<'w, F: ComparableFiles>(order: ExpandOrder<'w>, files: &F) -> Opti
     }
 }
 
-/// Reads the file of an order, and returns its expansion.
+/// Reads the file of an order, and returns its expansion. `is_colored` is whether messages have
+/// colors.
 fn expansion_of<'w, F: ComparableFiles>(
     alloc: Global,
     order: ExpandOrder<'w>,
@@ -265,7 +269,8 @@ fn expansion_of<'w, F: ComparableFiles>(
     expand(&source, order.shape, showing)
 }
 
-/// Writes the warnings, delivers an expansion, and returns the ending of the program.
+/// Writes the warnings of an expansion, delivers its result, and returns the ending of the program.
+/// Writes the message of a failure after the warnings.
 fn deliver_and_end<F: ComparableFiles, O: Write, E: Write>(
     alloc: Global,
     order: ExpandOrder<'_>,
@@ -311,7 +316,8 @@ fn failed_after<E: Write>(is_warned: bool, failure: &Failure<'_>, err: &mut E) -
     }
 }
 
-/// Writes the text of the warnings of a file. Returns whether standard error took it.
+/// Writes the text of the warnings of a file. Returns whether standard error took the text, or
+/// `true` if it is empty.
 fn warn<E: Write>(warnings: &[u8], err: &mut E) -> bool
     ensures { IsTrue result → (text : List ℕ)
         × Appends (E.contents err.old) (E.contents err.new) text }
@@ -322,7 +328,8 @@ fn warn<E: Write>(warnings: &[u8], err: &mut E) -> bool
     write_through(warnings, err).is_ok()
 }
 
-/// Writes the result to standard output or to the output file.
+/// Writes the result `bytes` to standard output, or to the output file if the order names one. With
+/// `--check`, only compares the file with the result.
 fn deliver<'w, F: ComparableFiles, O: Write>(
     alloc: Global,
     order: ExpandOrder<'w>,
@@ -346,8 +353,8 @@ fn deliver<'w, F: ComparableFiles, O: Write>(
     }
 }
 
-/// Writes `bytes` to a file, unless it has them already. With `--check`, only compares the file
-/// with them.
+/// Writes `bytes` to the file at `path`, unless the file has them already. With `--check`, refuses
+/// a file that does not have them.
 fn settle<'w, F: ComparableFiles>(
     alloc: Global,
     order: ExpandOrder<'w>,

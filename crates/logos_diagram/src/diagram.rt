@@ -1,11 +1,11 @@
-//! The state diagram as a whole. Called by `logos_show`.
+//! Draws the state diagram of a lexer as Mermaid text. Used by `logos_show`.
 
 use crate::edges::{Drawn, push_edges, push_state};
 use crate::label::Mermaid;
 use logos_graph::graph::{Graph, StateData};
 use std::alloc::{AllocError, Global};
 
-/// The lexer of a state diagram.
+/// The graph of a lexer, with the name of its enum.
 #[derive(Clone, Copy)]
 pub struct DiagramLexer<'p, 's> {
     /// The name of the enum.
@@ -13,8 +13,9 @@ pub struct DiagramLexer<'p, 's> {
     pub graph: &'p Graph<'s>,
 }
 
-/// Returns the state diagram of a lexer as Mermaid text: a line for each state, and one for each
-/// edge. All bytes of a character outside ASCII are one edge, without the states between them.
+/// Returns the state diagram of a lexer as Mermaid text: a line for each drawn state and for each
+/// edge. All bytes of a character outside ASCII are one edge, and the states between them are not
+/// drawn.
 ///
 /// # Errors
 ///
@@ -41,7 +42,7 @@ pub fn diagram_of(alloc: Global, lexer: DiagramLexer<'_, '_>) -> Result<String, 
     mermaid.finish()
 }
 
-/// Appends the comment at the top, and the kind of the diagram.
+/// Appends the comment at the top of the diagram of the enum `name`, and the kind of the diagram.
 fn push_head(mermaid: &mut Mermaid, name: &str) {
     mermaid.push_code("%% The states of the lexer ");
     mermaid.push_label(name);
@@ -54,7 +55,8 @@ flowchart LR
     );
 }
 
-/// Appends the lines of the drawn state with this number, if there is one.
+/// Appends the lines of the state at the index `number` of the drawn states and of its edges, and
+/// adds the targets of the edges to `drawn`. Appends nothing if there is no such state.
 fn push_next(
     alloc: Global,
     mermaid: &mut Mermaid,
@@ -74,7 +76,7 @@ fn push_next(
     push_edges(alloc, mermaid, states, drawn, state)
 }
 
-/// Returns the states of a graph.
+/// Returns the states of a graph, in the order of their numbers.
 fn states_of<'g>(alloc: Global, graph: &'g Graph<'_>) -> Result<Vec<&'g StateData>, AllocError> {
     let mut states = Vec::new(alloc);
     for state in graph.iter_states() {

@@ -1,4 +1,4 @@
-//! The lines of a state and its edges. Used by `diagram`.
+//! Writes the lines of a state and of its edges. Used by `diagram`.
 
 use crate::folds::{add_folded, is_folded, size_of};
 use crate::label::Mermaid;
@@ -8,17 +8,17 @@ use logos_graph::byte_class::ByteClass;
 use logos_graph::graph::{Graph, State, StateData};
 use std::alloc::{AllocError, Global};
 
-/// The states that are drawn, in the order in which they are reached.
+/// The states that are drawn, in the order in which edges reach them.
 #[derive(Drop)]
 pub(crate) struct Drawn {
     /// Whether each state is drawn, by its number.
     pub(crate) seen: Vec<bool>,
-    /// The drawn states.
+    /// The numbers of the drawn states.
     pub(crate) reached: Vec<usize>,
 }
 
 impl Drawn {
-    /// Adds a state, if it was not added before.
+    /// Adds a state by its number, unless it was added before or does not exist.
     ///
     /// # Errors
     ///
@@ -36,7 +36,7 @@ impl Drawn {
     }
 }
 
-/// Appends the line of a state, with its mark.
+/// Appends the line of the state with the number `state`, with its mark if it has one.
 pub(crate) fn push_state(mermaid: &mut Mermaid, graph: &Graph<'_>, state: usize, data: &StateData) {
     push_id(mermaid, state);
     match (data.state_type.early, data.state_type.accept) {
@@ -50,7 +50,7 @@ pub(crate) fn push_state(mermaid: &mut Mermaid, graph: &Graph<'_>, state: usize,
     }
 }
 
-/// Appends the label of a state with a mark.
+/// Appends the label of a state with a mark: its number, the name of the leaf, and `end`.
 fn push_marked(
     mermaid: &mut Mermaid,
     graph: &Graph<'_>,
@@ -66,13 +66,14 @@ fn push_marked(
     mermaid.push_code("\"])\n");
 }
 
-/// Appends the name of the node of a state.
+/// Appends the name of the node of the state with the number `state`.
 fn push_id(mermaid: &mut Mermaid, state: usize) {
     mermaid.push_code("s");
     mermaid.push_number(state);
 }
 
-/// Appends the lines of the edges of a state, and adds their targets to the drawn states.
+/// Appends the lines of the edges of the state with the number `state`, and adds their targets to
+/// `drawn`. Changes nothing if there is no such state.
 ///
 /// # Errors
 ///
@@ -99,7 +100,7 @@ pub(crate) fn push_edges(
     push_end_edge(mermaid, drawn, state, data.eoi)
 }
 
-/// The states of a graph, and one of them, with its data.
+/// The states of a graph, and one of these by its number and its data.
 #[derive(Clone, Copy)]
 struct EdgesFrom<'a> {
     states: &'a [&'a StateData],
@@ -107,7 +108,8 @@ struct EdgesFrom<'a> {
     data: &'a StateData,
 }
 
-/// Counts for each state the characters that lead to it over folded edges.
+/// Adds the characters of the folded edges of `edges` to the count in `wide` of the state to which
+/// they lead.
 fn count_wide(states: &[&StateData], edges: &[(ByteClass, State)], wide: &mut Vec<usize>) {
     for edge in edges {
         if is_folded(states, edge) {
@@ -116,8 +118,9 @@ fn count_wide(states: &[&StateData], edges: &[(ByteClass, State)], wide: &mut Ve
     }
 }
 
-/// Appends the edges that are not folded, each together with the characters that lead to its
-/// target.
+/// Appends the edges that are not folded, each together with the characters outside ASCII that lead
+/// to its target. Sets the counts of these characters in `wide` to 0, and adds the targets to
+/// `drawn`.
 fn push_narrow_edges(
     alloc: Global,
     mermaid: &mut Mermaid,
@@ -134,7 +137,8 @@ fn push_narrow_edges(
     Ok(())
 }
 
-/// Returns the count of a state, and sets it to 0.
+/// Returns the count of the state with the number `state`, and sets the count to 0. Returns 0 if
+/// there is no such state.
 fn taken(wide: &mut Vec<usize>, state: usize) -> usize {
     if state >= wide.len() {
         return 0;
@@ -144,7 +148,8 @@ fn taken(wide: &mut Vec<usize>, state: usize) -> usize {
     count
 }
 
-/// Appends an edge that is not folded.
+/// Appends an edge that is not folded, with `wide` characters outside ASCII that lead to its
+/// target.
 fn push_narrow(
     alloc: Global,
     mermaid: &mut Mermaid,
@@ -160,8 +165,8 @@ fn push_narrow(
     push_edge(alloc, mermaid, from.state, edge.1.index(), label)
 }
 
-/// Returns whether the edges of a state cover all bytes, and `class` has at least half of them: in
-/// several ranges, or all of them.
+/// Returns whether the edges of a state cover all bytes and `class` has either all of them, or at
+/// least 128 in several ranges.
 fn is_rest(data: &StateData, class: &ByteClass) -> bool {
     let mut size: usize = 0;
     for edge in &data.normal {
@@ -170,7 +175,8 @@ fn is_rest(data: &StateData, class: &ByteClass) -> bool {
     (size == 256) & (size_of(class) >= 128) & ((class.ranges.len() > 1) | (size_of(class) == 256))
 }
 
-/// Appends the edges whose labels have only characters outside ASCII.
+/// Appends an edge for each state that has a count in `wide`, which only characters outside ASCII
+/// take, and adds the state to `drawn`.
 fn push_wide_edges(
     alloc: Global,
     mermaid: &mut Mermaid,
@@ -187,7 +193,7 @@ fn push_wide_edges(
     Ok(())
 }
 
-/// Appends an edge for a number of characters outside ASCII.
+/// Appends an edge that only `wide` characters outside ASCII take.
 fn push_only_wide(
     alloc: Global,
     mermaid: &mut Mermaid,
@@ -203,7 +209,7 @@ fn push_only_wide(
     push_edge(alloc, mermaid, state, target, label)
 }
 
-/// Appends the line of an edge.
+/// Appends the line of an edge from `state` to `target`.
 fn push_edge(
     alloc: Global,
     mermaid: &mut Mermaid,
@@ -220,7 +226,8 @@ fn push_edge(
     Ok(())
 }
 
-/// Appends the line of the edge at the end of the input, if there is one.
+/// Appends the line of the edge for the end of the input, and adds its target to `drawn`. Changes
+/// nothing if `end` is `None`.
 fn push_end_edge(
     mermaid: &mut Mermaid,
     drawn: &mut Drawn,

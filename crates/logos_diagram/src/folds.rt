@@ -1,11 +1,12 @@
-//! Edges over the bytes of characters outside ASCII, which are folded: a diagram has one edge for
-//! all bytes of a character. Used by `edges`.
+//! Folds edges over the bytes of characters outside ASCII: a diagram has one edge for all bytes of
+//! a character. Used by `edges` and `names`.
 
 use logos_graph::byte_class::ByteClass;
 use logos_graph::graph::{State, StateData};
 use std::ops::RangeInclusive;
 
-/// The least first bytes of characters of two, three and four bytes, and the greatest first byte.
+/// The least first byte of a character of two bytes. `THREE` and `FOUR` are those of three and four
+/// bytes, and `LAST` is the greatest first byte.
 const FIRST: u8 = 0xC2;
 
 const THREE: u8 = 0xE0;
@@ -15,7 +16,8 @@ const FOUR: u8 = 0xF0;
 const LAST: u8 = 0xF4;
 
 /// Returns whether an edge is folded: whether each of its bytes begins a character outside ASCII,
-/// and the states after it have no mark and only edges for the other bytes of the character.
+/// and the states up to the last byte of the character have no mark and only edges for bytes that
+/// continue the character.
 pub(crate) fn is_folded(states: &[&StateData], edge: &(ByteClass, State)) -> bool {
     edge.0.ranges.iter().all(|range| folds_from(
         states,
@@ -25,8 +27,8 @@ pub(crate) fn is_folded(states: &[&StateData], edge: &(ByteClass, State)) -> boo
     ))
 }
 
-/// Returns whether each byte in `first..=last` begins a character, and a state reads only the other
-/// bytes of such characters.
+/// Returns whether each byte in `first..=last` begins a character outside ASCII, and the state with
+/// the number `state` reads only bytes that continue the character.
 fn folds_from(states: &[&StateData], state: usize, first: u8, last: u8) -> bool {
     if (first < FIRST) | (LAST < last) {
         return false;
@@ -39,7 +41,8 @@ fn folds_from(states: &[&StateData], state: usize, first: u8, last: u8) -> bool 
     true
 }
 
-/// Returns whether a state reads only the other bytes of characters with this first byte.
+/// Returns whether the state with the number `state` reads only bytes that continue a character
+/// with the first byte `first`.
 fn folds_at(states: &[&StateData], state: usize, first: u8) -> bool {
     if first < THREE {
         return continues(states, state, 0x80, 0xBF);
@@ -50,7 +53,7 @@ fn folds_at(states: &[&StateData], state: usize, first: u8) -> bool {
     continues_thrice(states, state, least_second(first), most_second(first))
 }
 
-/// Returns the least second byte of a character with this first byte.
+/// Returns the least second byte of a character with the first byte `first`.
 fn least_second(first: u8) -> u8 {
     match first {
         0xE0 => 0xA0,
@@ -59,7 +62,7 @@ fn least_second(first: u8) -> u8 {
     }
 }
 
-/// Returns the greatest second byte of a character with this first byte.
+/// Returns the greatest second byte of a character with the first byte `first`.
 fn most_second(first: u8) -> u8 {
     match first {
         0xED => 0x9F,
@@ -68,8 +71,8 @@ fn most_second(first: u8) -> u8 {
     }
 }
 
-/// Returns whether a state has no mark, and at least one edge, and all its edges are on bytes of a
-/// range.
+/// Returns whether the state with the number `state` has no mark and no edge at the end of the
+/// input, and has edges, all on bytes in `least..=most`. Returns `false` if there is no such state.
 fn continues(states: &[&StateData], state: usize, least: u8, most: u8) -> bool {
     match states.get(state) {
         Some(data) => is_unmarked(data) & has_edges_within(data, least, most),
@@ -82,7 +85,8 @@ fn is_unmarked(data: &StateData) -> bool {
     data.state_type.accept.is_none() & data.state_type.early.is_none() & data.eoi.is_none()
 }
 
-/// Returns whether a state has at least one edge, and all its edges are on bytes of a range.
+/// Returns whether a state has at least one edge for bytes, and all these edges are on bytes in
+/// `least..=most`.
 fn has_edges_within(data: &StateData, least: u8, most: u8) -> bool {
     !data.normal.is_empty()
         & data
@@ -91,7 +95,7 @@ fn has_edges_within(data: &StateData, least: u8, most: u8) -> bool {
             .all(|edge| is_within(&edge.0, least, most))
 }
 
-/// Returns whether a set has only bytes of a range.
+/// Returns whether a set has only bytes in `least..=most`.
 fn is_within(class: &ByteClass, least: u8, most: u8) -> bool {
     class
         .ranges
@@ -99,7 +103,8 @@ fn is_within(class: &ByteClass, least: u8, most: u8) -> bool {
         .all(|range| (least <= *range.start()) & (*range.end() <= most))
 }
 
-/// Returns whether a state reads only pairs of continuation bytes, whose first byte is in a range.
+/// Returns whether the state with the number `state` reads only pairs of bytes: one in
+/// `least..=most`, and a continuation byte.
 fn continues_twice(states: &[&StateData], state: usize, least: u8, most: u8) -> bool {
     if !continues(states, state, least, most) {
         return false;
@@ -112,8 +117,8 @@ fn continues_twice(states: &[&StateData], state: usize, least: u8, most: u8) -> 
         .all(|edge| continues(states, edge.1.index(), 0x80, 0xBF))
 }
 
-/// Returns whether a state reads only triples of continuation bytes, whose first byte is in a
-/// range.
+/// Returns whether the state with the number `state` reads only triples of bytes: one in
+/// `least..=most`, and two continuation bytes.
 fn continues_thrice(states: &[&StateData], state: usize, least: u8, most: u8) -> bool {
     if !continues(states, state, least, most) {
         return false;
@@ -126,7 +131,8 @@ fn continues_thrice(states: &[&StateData], state: usize, least: u8, most: u8) ->
         .all(|edge| continues_twice(states, edge.1.index(), 0x80, 0xBF))
 }
 
-/// Adds the characters of a folded edge to the counts of the states to which they lead.
+/// Adds the numbers of characters of a folded edge to the counts of the states to which these
+/// characters lead.
 pub(crate) fn add_folded(
     states: &[&StateData],
     edge: &(ByteClass, State),
@@ -137,7 +143,8 @@ pub(crate) fn add_folded(
     }
 }
 
-/// Adds the characters whose first byte is in a range, and whose other bytes a state reads.
+/// Adds the characters whose first byte is in `range`, and whose other bytes the state with the
+/// number `state` reads, to the counts of the states to which they lead.
 fn add_range(
     states: &[&StateData],
     state: usize,
@@ -149,7 +156,8 @@ fn add_range(
     }
 }
 
-/// Adds the characters with this first byte, whose other bytes a state reads.
+/// Adds the characters with the first byte `first`, whose other bytes the state with the number
+/// `state` reads, to the counts of the states to which they lead.
 fn add_from(states: &[&StateData], state: usize, first: u8, counts: &mut Vec<usize>) {
     if first < THREE {
         add_last(states, state, 1, counts);
@@ -171,7 +179,8 @@ pub(crate) fn size_of(class: &ByteClass) -> usize {
     size
 }
 
-/// Adds the bytes of the edges of a state, `times` times, to the counts of their targets.
+/// Adds the bytes that the state with the number `state` reads, `times` times, to the counts of the
+/// states to which they lead.
 fn add_last(states: &[&StateData], state: usize, times: usize, counts: &mut Vec<usize>) {
     if let Some(data) = states.get(state) {
         for edge in &data.normal {
@@ -184,15 +193,15 @@ fn add_last(states: &[&StateData], state: usize, times: usize, counts: &mut Vec<
     }
 }
 
-/// Adds `count` to the count of a state.
+/// Adds `count` to the count of a state, if there is such a state.
 fn add_count(counts: &mut Vec<usize>, state: usize, count: usize) {
     if state < counts.len() {
         counts[state] = counts[state].saturating_add(count);
     }
 }
 
-/// Adds the pairs of bytes that a state reads, `times` times, to the counts of the states to which
-/// they lead.
+/// Adds the pairs of bytes that are read from the state with the number `state`, `times` times, to
+/// the counts of the states to which they lead.
 fn add_twice(states: &[&StateData], state: usize, times: usize, counts: &mut Vec<usize>) {
     if let Some(data) = states.get(state) {
         for edge in &data.normal {
@@ -202,7 +211,8 @@ fn add_twice(states: &[&StateData], state: usize, times: usize, counts: &mut Vec
     }
 }
 
-/// Adds the triples of bytes that a state reads to the counts of the states to which they lead.
+/// Adds the triples of bytes that are read from the state with the number `state` to the counts of
+/// the states to which they lead.
 fn add_thrice(states: &[&StateData], state: usize, counts: &mut Vec<usize>) {
     if let Some(data) = states.get(state) {
         for edge in &data.normal {

@@ -1,5 +1,5 @@
-//! Mermaid text to which code and labels are appended. Its code consists of constants, and all
-//! other text passes through `push_label_char`. All other modules write with it.
+//! Builds Mermaid text from code and labels. Code comes from constants, and each character of other
+//! text passes through `push_label_char`. Used by all modules that write parts of a diagram.
 
 ghost use Rattle.std.specs.Prelude.{◌≡◌, ◌↔◌, [], false, true, IfOk, IsOk, IsTrue, decimal, string_bytes};
 ghost use Rattle.logos_diagram.specs.Imports.{Gains, coded, is_alphanumeric, is_between, is_coded, is_plain, label_char, label_text};
@@ -8,8 +8,8 @@ use logos_page::Page;
 use std::alloc::{AllocError, Global};
 use std::marker::Model;
 
-/// Mermaid text to which code and labels are appended. It records whether memory ran out, so only
-/// `finish` can fail.
+/// Mermaid text to which code and labels are appended. A value records whether memory ran out, so
+/// only `finish` can fail.
 #[derive(Drop)]
 pub struct Mermaid {
     page: Page,
@@ -24,7 +24,7 @@ impl Model for Mermaid {
 }
 
 impl Mermaid {
-    /// Returns an empty text.
+    /// Returns Mermaid text without content.
     pub fn new(alloc: Global) -> Mermaid
         ensures { result ≡ record { text = []; is_colored = false; is_whole = true } }
     {
@@ -33,15 +33,15 @@ impl Mermaid {
         }
     }
 
-    /// Appends Mermaid code. It is a constant of the program, so that no text of a file becomes
-    /// code.
+    /// Appends Mermaid code. The code is a constant of the program, so that no text of a file
+    /// becomes code.
     pub fn push_code(&mut self, code: &'static str)
         ensures { Gains code.now self.old self.new }
     {
         self.page.push(code);
     }
 
-    /// Appends a number.
+    /// Appends a number in decimal.
     pub fn push_number(&mut self, number: usize)
         ensures { Gains (decimal number) self.old self.new }
     {
@@ -60,7 +60,7 @@ impl Mermaid {
         }
     }
 
-    /// Appends the entity code of a character.
+    /// Appends the entity code of the character with the code point `number`.
     fn push_coded(&mut self, number: usize)
         ensures { Gains (coded number) self.old self.new }
     {
@@ -69,7 +69,7 @@ impl Mermaid {
         self.page.push(";");
     }
 
-    /// Appends a text of a label. It cannot end the label.
+    /// Appends a text as part of a label, no character of which ends the label.
     pub fn push_label(&mut self, text: &str)
         ensures { Gains (label_text text.now) self.old self.new }
     {
@@ -78,7 +78,7 @@ impl Mermaid {
         }
     }
 
-    /// Returns the whole text.
+    /// Returns the Mermaid text.
     ///
     /// # Errors
     ///
@@ -91,21 +91,21 @@ impl Mermaid {
     }
 }
 
-/// Returns whether a character is visible ASCII other than letters, digits and plain punctuation.
+/// Returns whether a code point is visible ASCII other than letters, digits and plain punctuation.
 fn is_coded(code: u32) -> bool
     ensures { result ≡ is_coded code }
 {
     is_between(33, 126, code) & !(is_alphanumeric(code) | is_plain(code))
 }
 
-/// Returns whether a character is an ASCII letter or digit.
+/// Returns whether a code point is an ASCII letter or digit.
 fn is_alphanumeric(code: u32) -> bool
     ensures { result ≡ is_alphanumeric code }
 {
     is_between(48, 57, code) | (is_between(65, 90, code) | is_between(97, 122, code))
 }
 
-/// Returns whether a character is one of `( ) + , - . [ ] ^ _`.
+/// Returns whether a code point is one of `( ) + , - . [ ] ^ _`.
 fn is_plain(code: u32) -> bool
     ensures { result ≡ is_plain code }
 {
@@ -113,7 +113,7 @@ fn is_plain(code: u32) -> bool
         | (is_between(43, 46, code) | ((code == 91) | is_between(93, 95, code)))
 }
 
-/// Returns whether a number is in `from..=to`.
+/// Returns whether `number` is in `from..=to`.
 fn is_between(from: u32, to: u32, number: u32) -> bool
     ensures { result ≡ is_between from to number }
 {

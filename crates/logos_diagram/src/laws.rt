@@ -1,4 +1,4 @@
-//! Laws about text in a label.
+//! Laws about the text of labels.
 
 ghost use Rattle.std.specs.Prelude.{ℕ, List};
 ghost use Rattle.logos_diagram.specs.Imports.{AreLabelBytes, label_text};

@@ -1,4 +1,4 @@
-//! The labels of edges: sets of bytes and of characters by short names. Used by `edges`.
+//! Writes the labels of edges: sets of bytes and of characters by short names. Used by `edges`.
 
 use crate::folds::size_of;
 use crate::label::Mermaid;
@@ -8,20 +8,20 @@ use logos_page::Page;
 use std::alloc::{AllocError, Global};
 use std::ops::RangeInclusive;
 
-/// The maximum number of ranges of a set of bytes that are shown.
+/// The maximum number of byte ranges that a label shows.
 const RANGES: usize = 12;
 
 /// The number of characters outside ASCII.
 const WIDE: usize = 1_111_936;
 
-/// The bytes and the characters of an edge.
+/// The bytes and the characters that take an edge.
 #[derive(Clone, Copy)]
 pub(crate) struct EdgeLabel<'a> {
-    /// The bytes, if there are any.
+    /// The set of bytes, or `None` if only characters outside ASCII take the edge.
     pub(crate) class: Option<&'a ByteClass>,
-    /// Whether the bytes are all that no other edge of the state has.
+    /// Whether the label names the bytes as all that no other edge of the state has.
     pub(crate) is_rest: bool,
-    /// The number of characters outside ASCII.
+    /// The number of characters outside ASCII that take the edge as a whole.
     pub(crate) wide: usize,
 }
 
@@ -45,7 +45,7 @@ pub(crate) fn push_edge_label(
     Ok(())
 }
 
-/// Appends the bytes of an edge, and its characters outside ASCII if it has any.
+/// Appends the bytes of an edge, which are `class`, and its characters outside ASCII if it has any.
 fn push_bytes(page: &mut Page, class: &ByteClass, label: EdgeLabel<'_>) {
     if (label.wide == WIDE) & is_ascii(class) {
         return push_all_but(page, class);
@@ -60,7 +60,7 @@ fn push_bytes(page: &mut Page, class: &ByteClass, label: EdgeLabel<'_>) {
     }
 }
 
-/// Returns the name of the bytes that no other edge of a state has.
+/// Returns the name of the bytes that no other edge of a state has, given their set.
 fn rest_name(class: &ByteClass) -> &'static str {
     if size_of(class) == 256 {
         "any byte"
@@ -69,7 +69,7 @@ fn rest_name(class: &ByteClass) -> &'static str {
     }
 }
 
-/// Appends the name of all characters except the ASCII characters that a set lacks.
+/// Appends the name of all characters except the ASCII characters that the set `class` lacks.
 fn push_all_but(page: &mut Page, class: &ByteClass) {
     if size_of(class) == 128 {
         page.push("any character");
@@ -78,12 +78,12 @@ fn push_all_but(page: &mut Page, class: &ByteClass) {
     }
 }
 
-/// Returns whether a set has only ASCII characters.
+/// Returns whether a set has only ASCII bytes.
 fn is_ascii(class: &ByteClass) -> bool {
     class.ranges.iter().all(|range| *range.end() < 128)
 }
 
-/// Appends a number of characters outside ASCII.
+/// Appends the words for `count` characters outside ASCII.
 fn push_wide(page: &mut Page, count: usize) {
     if count == WIDE {
         return page.push("any non-ASCII character");
@@ -96,7 +96,7 @@ fn push_wide(page: &mut Page, count: usize) {
     });
 }
 
-/// Appends a set of bytes by its name, if it has one, or by its ranges.
+/// Appends a set of bytes by its short name, or by its ranges if it has none.
 fn push_named(page: &mut Page, class: &ByteClass) {
     match name_of(&class.ranges) {
         Some(name) => page.push(name),
@@ -104,7 +104,7 @@ fn push_named(page: &mut Page, class: &ByteClass) {
     }
 }
 
-/// Returns the name of ranges of bytes, if they have one.
+/// Returns the short name of a set with these ranges of bytes, or `None` if it has none.
 fn name_of(ranges: &[RangeInclusive<u8>]) -> Option<&'static str> {
     match ranges {
         [digits] if is_range(digits, b'0', b'9') => Some("\\d"),
@@ -120,7 +120,7 @@ fn name_of(ranges: &[RangeInclusive<u8>]) -> Option<&'static str> {
     }
 }
 
-/// Returns whether a range has these bounds.
+/// Returns whether `range` is `first..=last`.
 fn is_range(range: &RangeInclusive<u8>, first: u8, last: u8) -> bool {
     (*range.start() == first) & (*range.end() == last)
 }

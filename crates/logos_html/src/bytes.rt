@@ -1,4 +1,4 @@
-//! Bytes as text in a page. Used by `spans`.
+//! Writes bytes as text of a page. Used by `spans`.
 
 ghost use Rattle.std.specs.Prelude.{◌≡◌, ◌<◌};
 ghost use Rattle.logos_html.specs.Imports.{Gains, byte_escape, flowing_byte, flowing_bytes, flowing_char, flowing_others, flowing_text, hex_digit};
@@ -6,8 +6,8 @@ ghost use Rattle.logos_html.specs.Imports.{Gains, byte_escape, flowing_byte, flo
 use crate::html::Html;
 use std::str;
 
-/// Appends bytes as preformatted text: as characters if they are UTF-8, otherwise each byte above
-/// ASCII as its escape. After the picture of LF the line ends.
+/// Appends bytes as preformatted text: as characters if all are UTF-8, otherwise ASCII as
+/// characters and every other byte as its escape. A line ends after the picture of LF.
 pub(crate) fn push_bytes(html: &mut Html, bytes: &[u8])
     ensures { Gains (flowing_bytes bytes.now) html.old html.new }
 {
@@ -17,7 +17,7 @@ pub(crate) fn push_bytes(html: &mut Html, bytes: &[u8])
     }
 }
 
-/// Appends a text as preformatted text.
+/// Appends the characters of `text` as preformatted text.
 fn push_flowing(html: &mut Html, text: &str)
     ensures { Gains (flowing_text text.now) html.old html.new }
 {
@@ -26,7 +26,7 @@ fn push_flowing(html: &mut Html, text: &str)
     }
 }
 
-/// Appends a character of preformatted text.
+/// Appends a character of preformatted text, and a line end after LF.
 fn push_flowing_char(html: &mut Html, character: char)
     ensures { Gains (flowing_char character) html.old html.new }
 {
@@ -34,7 +34,8 @@ fn push_flowing_char(html: &mut Html, character: char)
     html.push_line_end(character);
 }
 
-/// Appends bytes that are not UTF-8 as preformatted text.
+/// Appends bytes that are not UTF-8 as preformatted text: ASCII as characters, every other byte as
+/// its escape.
 fn push_others(html: &mut Html, bytes: &[u8])
     ensures { Gains (flowing_others bytes.now) html.old html.new }
 {
@@ -43,7 +44,7 @@ fn push_others(html: &mut Html, bytes: &[u8])
     }
 }
 
-/// Appends a byte of preformatted text.
+/// Appends a byte of preformatted text: ASCII as a character, every other byte as its escape.
 fn push_flowing_byte(html: &mut Html, byte: u8)
     ensures { Gains (flowing_byte byte) html.old html.new }
 {
@@ -63,7 +64,7 @@ fn push_byte_escape(html: &mut Html, byte: u8)
     html.push_char(hex_digit(byte % 16));
 }
 
-/// Returns the hexadecimal digit of a number below 16.
+/// Returns the hexadecimal digit of a number below 16, in upper case.
 fn hex_digit(number: u8) -> char
     requires { number < 16 }
     ensures { result ≡ hex_digit number }

@@ -1,11 +1,12 @@
-//! Sets of bytes in a short form, as in a pattern. Used by `states` and `drawing`.
+//! Writes sets of bytes in a short form, as in a pattern. Used by `states` and `drawing`.
 
 use crate::html::Html;
 use logos_graph::graph::ByteClass;
 use logos_page::Page;
 use std::alloc::{AllocError, Global};
 
-/// Appends at most `most` ranges of a set of bytes, between brackets, and the number of the others.
+/// Appends the first `most` ranges of a set of bytes, between brackets, and the number of the
+/// remaining ranges.
 ///
 /// # Errors
 ///

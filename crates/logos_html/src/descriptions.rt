@@ -1,4 +1,4 @@
-//! The descriptions of items: the lines that `--at` prints about their starts. Used by `document`.
+//! Describes items by the lines that `--at` prints about their starts. Used by `document`.
 
 ghost use Rattle.std.specs.Prelude.{◌≡◌, ◌+◌, ◌≤◌, IfOk, drop, length, map, string_bytes};
 ghost use Rattle.logos_html.specs.Views.{AllStart, AreDescribed, IsBytes, IsDescribed, IsDescription, IsEnough, IsGraphOf, described_of, item_of, items_of, rules_of, start_of};
@@ -17,13 +17,13 @@ use std::alloc::{AllocError, Global};
 /// The maximum number of steps for the descriptions of a page.
 const MOST: usize = 268_435_456;
 
-/// The number of steps for a byte that is read or written.
+/// The number of steps that reading or writing a byte counts as.
 const BYTE: usize = 64;
 
 /// The maximum number of bytes that are read for one description.
 const LONGEST: usize = 65_536;
 
-/// An item of an input with its description.
+/// An item of an input, with its description.
 #[derive(Drop)]
 pub(crate) struct Described<'i> {
     pub(crate) item: Item<'i>,
@@ -31,7 +31,7 @@ pub(crate) struct Described<'i> {
     pub(crate) description: String,
 }
 
-/// A lexer, and an input whose items are described.
+/// A lexer, and the input whose items are described.
 #[derive(Clone, Copy)]
 pub(crate) struct Subject<'a, 's> {
     pub(crate) graph: &'a Graph<'s>,
@@ -39,12 +39,13 @@ pub(crate) struct Subject<'a, 's> {
     pub(crate) bytes: &'a [u8],
 }
 
-/// The number of steps that are left for descriptions. It bounds their time and their size.
+/// The steps that are left for the descriptions of a page. They bound the time for the descriptions
+/// and their size.
 #[derive(Clone, Copy)]
 pub(crate) struct Budget {
     left: usize,
-    /// The start of the first item for which the budget was too small, if there is one. That item
-    /// and those after it have no description.
+    /// The start of the first item for which the budget was too small, as an offset in bytes, or
+    /// `None` if there was none. Neither this item nor a later one has a description.
     pub(crate) end: Option<usize>,
 }
 
@@ -56,7 +57,7 @@ pub(crate) fn new_budget() -> Budget {
     }
 }
 
-/// Returns these items with their descriptions.
+/// Returns `items` with their descriptions, and spends the steps for these from `budget`.
 ///
 /// # Errors
 ///
@@ -82,8 +83,9 @@ pub(crate) fn describe<'i>(
     Ok(described)
 }
 
-/// Returns the description of an item, or an empty text if it adds nothing to the label of the
-/// item, or if the budget is too small.
+/// Returns the description of an item, and spends the steps for it from `budget`. Returns an empty
+/// text if the description would add nothing to the label of the item, or if the budget is too
+/// small.
 fn description_of(
     alloc: Global,
     subject: Subject<'_, '_>,
@@ -112,8 +114,9 @@ fn description_of(
     Ok(text)
 }
 
-/// Returns the lines that `--at` prints about an offset of an input: the matches from there, and
-/// the partial matches if no leaf matches. They depend only on the `count` bytes after the offset.
+/// Returns the lines that `--at` prints about the offset `from` of an input: the matches from
+/// there, and the partial matches if no leaf matches. The lines are made from the bytes up to `from
+/// + count`, which have to decide them.
 ///
 /// # Errors
 ///
@@ -140,8 +143,8 @@ fn answer_of(
     Ok(text)
 }
 
-/// Returns whether the lines about an item add nothing to its label: whether they are only the line
-/// for its match, if it is a match, and the line for the verdict. Spends the steps for these lines.
+/// Returns whether the lines `text` about an item add nothing to its label: whether there are no
+/// more lines than `usual_lines`. Spends the steps for the lines from `budget`.
 fn is_usual(
     subject: Subject<'_, '_>,
     budget: &mut Budget,
@@ -159,8 +162,9 @@ fn is_usual(
     false
 }
 
-/// Returns the number of steps for the partial matches at an error: the states are visited for each
-/// leaf, and the location in each line is counted from the beginning of the input.
+/// Returns the number of steps for the partial matches at an error with this many lines: the states
+/// are visited for each leaf, and the location in each line is counted from the beginning of the
+/// input. Returns 0 for a match.
 fn steps_at(subject: Subject<'_, '_>, item: Item<'_>, lines: usize) -> usize {
     match item {
         Item::Token { .. } => 0,
@@ -174,12 +178,12 @@ fn steps_at(subject: Subject<'_, '_>, item: Item<'_>, lines: usize) -> usize {
     }
 }
 
-/// Subtracts a number of steps from a budget.
+/// Subtracts `count` steps from a budget, which does not fall below 0.
 fn spend(budget: &mut Budget, count: usize) {
     budget.left = budget.left.saturating_sub(count);
 }
 
-/// Ends a budget at the item that begins at `from`.
+/// Empties a budget, and records `from`, the start of an item, as its end if it has none.
 fn close(budget: &mut Budget, from: usize) {
     budget.left = 0;
     if budget.end.is_none() {
@@ -187,8 +191,8 @@ fn close(budget: &mut Budget, from: usize) {
     }
 }
 
-/// Returns the number of the lines about an item that add nothing to its label: one for its match,
-/// and one for the verdict.
+/// Returns the number of lines about an item that add nothing to its label: one for the match,
+/// unless the item is an error, and one for the verdict.
 fn usual_lines(item: Item<'_>) -> usize {
     match item {
         Item::Token { .. } => 2,

@@ -1,4 +1,4 @@
-//! The page as a whole: its head, its sections and its end. Called by `logos_show`.
+//! Makes the page of a lexer: its head, its sections and its end. Used by `logos_show`.
 
 ghost use Rattle.std.specs.Prelude.{◌≡◌, ◌++◌, IfErr, IfOk, IfSome, map, string_bytes};
 ghost use Rattle.logos_html.specs.Views.{AreDescribed, Begins, HasMarked, IsMarked, IsNoMisuse, described_of, emits, items_of, shown};
@@ -18,10 +18,10 @@ use logos_host::Failure;
 use logos_inspect::LeafRow;
 use std::alloc::{AllocError, Global};
 
-/// The maximum number of bytes of an input that are shown.
+/// The maximum number of bytes of an input that a page shows.
 const SHOWN: usize = 65_536;
 
-/// The lexer of a page.
+/// A lexer, with the facts about its enum that its page shows.
 #[derive(Clone, Copy)]
 pub struct LexerPage<'p, 's> {
     /// The name of the enum.
@@ -30,13 +30,13 @@ pub struct LexerPage<'p, 's> {
     pub path: &'p str,
     /// The line of the name in the file, counted from 1.
     pub line: usize,
-    /// The rows of the leaves.
+    /// The rows of the lexer's leaves, in order.
     pub rows: &'p [LeafRow<'p>],
     pub graph: &'p Graph<'s>,
     pub code: &'p Code<'s>,
 }
 
-/// An input that is shown on a page.
+/// An input whose text a page shows.
 #[derive(Clone, Copy)]
 pub struct PageInput<'p> {
     /// The path of the input.
@@ -44,8 +44,8 @@ pub struct PageInput<'p> {
     pub bytes: &'p [u8],
 }
 
-/// Returns the page of a lexer, and of an input if one is given. Of a long input the first 65,536
-/// bytes are shown, and the page states that.
+/// Returns the page of a lexer, with the text of `input` if one is given. Of an input of more than
+/// 65,536 bytes, at most the first 65,536 are shown, and the page states how many.
 ///
 /// # Errors
 ///
@@ -67,7 +67,7 @@ pub fn page_of(
     }
 }
 
-/// Returns the page of a lexer, and of an input.
+/// Returns the page of a lexer, with the text of an input.
 fn page_with(
     alloc: Global,
     page: LexerPage<'_, '_>,
@@ -91,14 +91,14 @@ fn page_with(
     Ok(joined(front, marked.as_str(), rest.as_str())?)
 }
 
-/// Returns the page of a lexer alone.
+/// Returns the page of a lexer, without the text of an input.
 fn page_without(alloc: Global, page: LexerPage<'_, '_>) -> Result<String, AllocError> {
     let front = front_of(alloc, page, None, None)?;
     let rest = rest_of(alloc, page, None)?;
     joined(front, "", rest.as_str())
 }
 
-/// Returns a text followed by two others.
+/// Returns `front`, followed by `middle` and `rest`.
 fn joined(front: String, middle: &str, rest: &str) -> Result<String, AllocError>
     ensures { IfOk result (λ text. string_bytes text
         ≡ string_bytes front ++ (middle.now ++ rest.now)) }
@@ -109,8 +109,8 @@ fn joined(front: String, middle: &str, rest: &str) -> Result<String, AllocError>
     Ok(whole)
 }
 
-/// Returns the page up to the marked text of the input, if one is given, or up to its states. Items
-/// from `described` on have no description.
+/// Returns the page up to the marked text of the input, or up to the section of the states if no
+/// input is given. Items that start at the offset `described` or after it have no description.
 fn front_of(
     alloc: Global,
     page: LexerPage<'_, '_>,
@@ -126,7 +126,8 @@ fn front_of(
     html.finish()
 }
 
-/// Returns the front of an input, with these items marked.
+/// Returns the text of the shown front of an input, in which the shown bytes of each of `items` are
+/// marked.
 fn marked_of(
     alloc: Global,
     page: LexerPage<'_, '_>,
@@ -149,8 +150,8 @@ fn marked_of(
     html.finish()
 }
 
-/// Returns the page after the marked text of the input, if one is given, or the page from its
-/// states to its end.
+/// Returns the page after the marked text of the input, or the page from the section of the states
+/// on if no input is given.
 fn rest_of(
     alloc: Global,
     page: LexerPage<'_, '_>,
@@ -166,7 +167,7 @@ fn rest_of(
     html.finish()
 }
 
-/// Appends the end of the section of an input, if one is given, and the section of the states.
+/// Appends the end of the section of the input, if one is given, and the section of the states.
 fn push_input_states(
     alloc: Global,
     html: &mut Html,
@@ -184,7 +185,8 @@ fn push_input_states(
     push_states(alloc, html, page.graph, states, Some(&entries))
 }
 
-/// Appends the head of the page, and the beginning of its body.
+/// Appends the head of the page, and its body up to the first section. `has_input` states whether
+/// the page shows an input.
 fn push_head(html: &mut Html, page: LexerPage<'_, '_>, has_input: bool) {
     html.push_markup(
         "<!DOCTYPE html>
@@ -208,7 +210,7 @@ fn push_head(html: &mut Html, page: LexerPage<'_, '_>, has_input: bool) {
     html.push_markup("</header>\n<main>\n");
 }
 
-/// Appends the links to the sections. The text of an input is linked only if `has_input` is set.
+/// Appends the links to the sections, with the section of the input's text if `has_input` is set.
 fn push_navigation(html: &mut Html, has_input: bool) {
     html.push_markup(
         "<nav aria-label=\"Sections\">\n<ul>\n<li><a href=\"#leaves\">Leaves</a></li>\n",
@@ -225,8 +227,8 @@ fn push_navigation(html: &mut Html, has_input: bool) {
     );
 }
 
-/// Returns the end of the shown front of an input, in bytes. It is between characters, if the input
-/// is UTF-8.
+/// Returns the end of the shown front of an input, as an offset in bytes: the input's length, or
+/// otherwise `SHOWN` or up to 3 bytes less, so that no character of UTF-8 is split.
 fn end_of(bytes: &[u8]) -> usize {
     if bytes.len() <= SHOWN {
         return bytes.len();
@@ -238,7 +240,8 @@ fn end_of(bytes: &[u8]) -> usize {
     end
 }
 
-/// Returns the offset before `at` if the byte at `at` continues a character, otherwise `at`.
+/// Returns the offset before `at` if the byte at `at` continues a character of UTF-8, otherwise
+/// `at`.
 fn before_continuation(bytes: &[u8], at: usize) -> usize {
     match bytes.get(at) {
         Some(byte) if (128 <= *byte) & (*byte < 192) => at.saturating_sub(1),
@@ -246,7 +249,8 @@ fn before_continuation(bytes: &[u8], at: usize) -> usize {
     }
 }
 
-/// Appends the beginning of the section of an input.
+/// Appends the beginning of the section of an input, up to its text. The text is shown up to the
+/// offset `end`, and items from the offset `described` on have no description.
 fn push_input_head(html: &mut Html, input: PageInput<'_>, end: usize, described: Option<usize>) {
     html.push_markup(
         "<section id=\"text\" aria-labelledby=\"text-title\">
@@ -270,7 +274,8 @@ color. <a class=\"skip\" href=\"#states\">Skip the text</a></p>
     );
 }
 
-/// Appends the number of shown bytes, if not all bytes are shown.
+/// Appends the sentence that only the first `end` of `length` bytes are shown, if `end` is less
+/// than `length`.
 fn push_cut(html: &mut Html, length: usize, end: usize) {
     if end < length {
         html.push_markup("<p class=\"cut\">The first ");
@@ -281,7 +286,8 @@ fn push_cut(html: &mut Html, length: usize, end: usize) {
     }
 }
 
-/// Appends the offset from which items have no description, if there is one.
+/// Appends the sentence that items from the offset `described` on have no description, or nothing
+/// for `None`.
 fn push_undescribed(html: &mut Html, described: Option<usize>) {
     if let Some(end) = described {
         html.push_markup(
@@ -293,7 +299,7 @@ before byte ",
     }
 }
 
-/// Returns the states of a graph.
+/// Returns the states of a graph, in the order of their numbers.
 fn states_of<'g>(alloc: Global, graph: &'g Graph<'_>) -> Result<Vec<&'g StateData>, AllocError> {
     let mut states = Vec::new(alloc);
     for state in graph.iter_states() {

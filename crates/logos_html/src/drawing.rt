@@ -1,4 +1,4 @@
-//! The drawing of a small graph, in SVG. Used by `document`.
+//! Draws a small graph in SVG. Used by `document`.
 
 use crate::classes::push_class;
 use crate::html::Html;
@@ -7,30 +7,30 @@ use logos_answers::name_at;
 use logos_graph::graph::{Graph, StateData, StateType};
 use std::alloc::{AllocError, Global};
 
-/// The maximum number of states of a graph that is drawn.
+/// The maximum number of states of a graph that is drawn. A larger graph is not drawn.
 const DRAWN: usize = 60;
 
-/// The maximum number of ranges of an edge that are shown beside it.
+/// The maximum number of byte ranges that are shown beside an edge.
 const RANGES: usize = 2;
 
-/// The distance between columns, and the one between rows.
+/// The horizontal distance between the states of neighboring columns.
 const WIDE: usize = 170;
 
 const HIGH: usize = 100;
 
-/// The margin around the drawing.
+/// The distance of the outermost states from the borders of the drawing.
 const MARGIN: usize = 70;
 
-/// The radius of a state.
+/// The radius of the ring of a state.
 const RADIUS: usize = 20;
 
-/// The distance of the middle of an arc from the states that it connects.
+/// The distance of the control points of a curve from the states that it connects.
 const DEEP: usize = 60;
 
-/// The distance of a label from the state to which its edge leads to the right.
+/// The horizontal distance of a label from the state to which its edge leads.
 const BEFORE: usize = 66;
 
-/// A point of a drawing.
+/// A point of a drawing, from its upper left corner.
 #[derive(Clone, Copy)]
 struct Dot {
     x: usize,
@@ -47,7 +47,7 @@ enum Bend {
     Back,
 }
 
-/// Appends the section with the drawing of a graph, or with the reason that there is none.
+/// Appends the section with the drawing of a graph, or with the reason that the graph is not drawn.
 ///
 /// # Errors
 ///
@@ -72,7 +72,7 @@ pub(crate) fn push_drawing(
     Ok(())
 }
 
-/// Appends the reason that a large graph is not drawn.
+/// Appends the reason that a graph of `count` states is not drawn.
 fn push_too_large(html: &mut Html, count: usize) {
     html.push_markup("<p class=\"cut\">Only lexers of at most ");
     html.push_number(DRAWN);
@@ -81,7 +81,7 @@ fn push_too_large(html: &mut Html, count: usize) {
     html.push_markup(" states, which the table lists.</p>\n");
 }
 
-/// Appends the drawing of a graph.
+/// Appends the drawing of a graph, and the sentence that explains it.
 fn push_graph(
     alloc: Global,
     html: &mut Html,
@@ -106,7 +106,8 @@ table of states has the same edges as text.</p>
     Ok(())
 }
 
-/// Appends the beginning of the drawing, with its size, its name and the heads of its arrows.
+/// Appends the beginning of the drawing of `count` states: its size, its name and the head of its
+/// arrows.
 fn push_frame(html: &mut Html, layers: &Layers, count: usize) {
     let end = dot_at(Cell {
         column: layers.columns.saturating_sub(1),
@@ -126,7 +127,7 @@ markerHeight=\"8\" orient=\"auto\"><path d=\"M0 0L8 4L0 8z\"/></marker></defs>
     );
 }
 
-/// Returns the point of a cell.
+/// Returns the point in the middle of a cell.
 fn dot_at(cell: Cell) -> Dot {
     Dot {
         x: MARGIN.saturating_add(WIDE.saturating_mul(cell.column)),
@@ -134,7 +135,8 @@ fn dot_at(cell: Cell) -> Dot {
     }
 }
 
-/// Returns the point of a state.
+/// Returns the point of the state with the number `state`, or the upper left corner if there is no
+/// such state.
 fn dot_of(layers: &Layers, state: usize) -> Dot {
     match layers.cells.get(state) {
         Some(cell) => dot_at(*cell),
@@ -142,7 +144,7 @@ fn dot_of(layers: &Layers, state: usize) -> Dot {
     }
 }
 
-/// Appends the edges of a state.
+/// Appends the edges of the state with the number `number`, with a label for each edge of bytes.
 fn push_edges(
     alloc: Global,
     html: &mut Html,
@@ -165,7 +167,7 @@ fn push_edges(
     Ok(())
 }
 
-/// Returns the form of an edge between two points.
+/// Returns the form of an edge from one point to another.
 fn bend_of(from: Dot, to: Dot) -> Bend {
     if from.x < to.x {
         return Bend::Forward;
@@ -179,7 +181,7 @@ fn bend_of(from: Dot, to: Dot) -> Bend {
     Bend::Aside
 }
 
-/// Appends the line of an edge.
+/// Appends the line of an edge, with the beginning `head` of its markup.
 fn push_line(html: &mut Html, from: Dot, to: Dot, head: &'static str) {
     html.push_markup(head);
     match bend_of(from, to) {
@@ -191,7 +193,7 @@ fn push_line(html: &mut Html, from: Dot, to: Dot, head: &'static str) {
     html.push_markup("\" marker-end=\"url(#head)\"/>\n");
 }
 
-/// Appends the curve of an edge to the right.
+/// Appends the curve of an edge to a state on the right.
 fn push_forward(html: &mut Html, from: Dot, to: Dot) {
     push_point(html, "M", from.x.saturating_add(RADIUS), from.y);
     push_point(html, " C", from.x.saturating_add(WIDE / 2), from.y);
@@ -199,7 +201,7 @@ fn push_forward(html: &mut Html, from: Dot, to: Dot) {
     push_point(html, " ", to.x.saturating_sub(RADIUS + 2), to.y);
 }
 
-/// Appends the curve of an edge from a state to itself.
+/// Appends the curve of an edge from the state at the point `at` to itself.
 fn push_loop(html: &mut Html, at: Dot) {
     let top = at.y.saturating_sub(RADIUS - 2);
     let high = at.y.saturating_sub(RADIUS + 34);
@@ -209,7 +211,7 @@ fn push_loop(html: &mut Html, at: Dot) {
     push_point(html, " ", at.x.saturating_add(10), top);
 }
 
-/// Appends the curve of an edge to another state of the same column.
+/// Appends the curve of an edge to another state of the same column, on the right of both.
 fn push_aside(html: &mut Html, from: Dot, to: Dot) {
     push_point(html, "M", from.x.saturating_add(RADIUS), from.y);
     push_point(html, " C", from.x.saturating_add(DEEP), from.y);
@@ -217,7 +219,7 @@ fn push_aside(html: &mut Html, from: Dot, to: Dot) {
     push_point(html, " ", to.x.saturating_add(RADIUS + 2), to.y);
 }
 
-/// Appends the curve of an edge to the left.
+/// Appends the curve of an edge to a state on the left.
 fn push_back(html: &mut Html, from: Dot, to: Dot) {
     let deep = from.y.max(to.y).saturating_add(DEEP);
     push_point(html, "M", from.x, from.y.saturating_add(RADIUS));
@@ -226,7 +228,7 @@ fn push_back(html: &mut Html, from: Dot, to: Dot) {
     push_point(html, " ", to.x, to.y.saturating_add(RADIUS + 2));
 }
 
-/// Appends the text `head`, and a point of a curve.
+/// Appends the text `head`, and the coordinates of a point of a curve.
 fn push_point(html: &mut Html, head: &'static str, x: usize, y: usize) {
     html.push_markup(head);
     html.push_number(x);
@@ -234,7 +236,7 @@ fn push_point(html: &mut Html, head: &'static str, x: usize, y: usize) {
     html.push_number(y);
 }
 
-/// Returns the point of the label of an edge.
+/// Returns the point of the label of an edge between two points.
 fn label_between(from: Dot, to: Dot) -> Dot {
     match bend_of(from, to) {
         Bend::Forward => Dot {
@@ -256,12 +258,12 @@ fn label_between(from: Dot, to: Dot) -> Dot {
     }
 }
 
-/// Returns the number in the middle between two others.
+/// Returns the mean of two numbers, or one less if both are odd.
 fn middle(one: usize, other: usize) -> usize {
     (one / 2).saturating_add(other / 2)
 }
 
-/// Appends the beginning of a label.
+/// Appends the start tag of a text at the point `at`.
 fn push_label_start(html: &mut Html, at: Dot) {
     html.push_markup("<text class=\"t\" x=\"");
     html.push_number(at.x);
@@ -270,7 +272,8 @@ fn push_label_start(html: &mut Html, at: Dot) {
     html.push_markup("\">");
 }
 
-/// Appends the node of a state.
+/// Appends the state with the number `number`: its ring, a second ring if it has a mark, its
+/// number, and the name of the marked leaf.
 fn push_node(
     html: &mut Html,
     graph: &Graph<'_>,
@@ -295,7 +298,7 @@ fn push_node(
     push_name(html, graph, at, state_type);
 }
 
-/// Appends a ring around a state.
+/// Appends a ring around the point `at`.
 fn push_ring(html: &mut Html, at: Dot, radius: usize) {
     html.push_markup("<circle cx=\"");
     html.push_number(at.x);
@@ -306,7 +309,8 @@ fn push_ring(html: &mut Html, at: Dot, radius: usize) {
     html.push_markup("\"/>\n");
 }
 
-/// Appends the name of the marked leaf below a state, if the state has a mark.
+/// Appends the name of the marked leaf below a state at the point `at`, or nothing if the state has
+/// no mark.
 fn push_name(html: &mut Html, graph: &Graph<'_>, at: Dot, state_type: StateType) {
     let below = Dot {
         x: at.x,

@@ -1,4 +1,4 @@
-//! The first items of an input. Used by `document`.
+//! Finds the first items of an input. Used by `document`, `spans` and `descriptions`.
 
 ghost use Rattle.std.specs.Prelude.{◌≡◌, IfErr, IfOk, IsTrue, IsUtf8, map};
 ghost use Rattle.logos_html.specs.Views.{Begins, IsNoMisuse, TakesMatches, answers_of, emits, end_of, item_of, start_of};
@@ -12,7 +12,7 @@ use logos_token::token::Span;
 use std::alloc::{AllocError, Global};
 
 /// Returns the first items of an input, in order: all, or those up to the first one that ends at
-/// byte `most` or after it. Each match of a leaf other than a skip is an item.
+/// the offset `most` or after it. Each match of a leaf other than a skip is an item.
 ///
 /// # Errors
 ///
@@ -41,8 +41,8 @@ pub(crate) fn first_items<'i>(
     }
 }
 
-/// Returns the next items of a lexer: all, or those up to the first one that ends at byte `most` or
-/// after it.
+/// Returns the next items of a lexer: all, or those up to the first one that ends at the offset
+/// `most` or after it.
 fn next_items<'i, C: Fn(LeafId, &[u8]) -> Action>(
     alloc: Global,
     lexer: &mut Lexer<'_, '_, 'i, C>,

@@ -1,5 +1,5 @@
-//! HTML to which markup and text are appended. Markup comes from constants, and all other text
-//! passes through `push_char`. All other modules write with it.
+//! Builds HTML from markup and text. Markup comes from constants, and each character of other text
+//! passes through `push_char`. Used by all modules that write parts of a page.
 
 ghost use Rattle.std.specs.Prelude.{◌≡◌, ◌↔◌, [], true, false, IfOk, IsOk, IsTrue, decimal, string_bytes};
 ghost use Rattle.logos_html.specs.Views.{Gains, escaped_char, escaped_line_char, escaped_lines, escaped_text, line_end};
@@ -8,8 +8,8 @@ use logos_page::Page;
 use std::alloc::{AllocError, Global};
 use std::marker::Model;
 
-/// HTML to which markup and text are appended. It records whether memory ran out, so only `finish`
-/// can fail.
+/// HTML to which markup and text are appended. A value records whether memory ran out, so only
+/// `finish` can fail.
 #[derive(Drop)]
 pub struct Html {
     page: Page,
@@ -24,7 +24,7 @@ impl Model for Html {
 }
 
 impl Html {
-    /// Returns an empty text.
+    /// Returns HTML without content.
     pub fn new(alloc: Global) -> Html
         ensures { result ≡ record { text = []; is_colored = false; is_whole = true } }
     {
@@ -33,15 +33,16 @@ impl Html {
         }
     }
 
-    /// Appends markup. It is a constant of the program, so that no text of a file becomes markup.
+    /// Appends markup. The markup is a constant of the program, so that no text of a file becomes
+    /// markup.
     pub fn push_markup(&mut self, markup: &'static str)
         ensures { Gains markup.now self.old self.new }
     {
         self.page.push(markup);
     }
 
-    /// Appends a character as text: a reference for one that would be markup, and the shown form of
-    /// any other one.
+    /// Appends a character as text: a reference if the character would be markup, otherwise its
+    /// shown form.
     pub fn push_char(&mut self, character: char)
         ensures { Gains (escaped_char character) self.old self.new }
     {
@@ -55,7 +56,7 @@ impl Html {
         }
     }
 
-    /// Appends a text. It contains no markup, even in the value of an attribute.
+    /// Appends a text, no character of which is read as markup, even in the value of an attribute.
     pub fn push_text(&mut self, text: &str)
         ensures { Gains (escaped_text text.now) self.old self.new }
     {
@@ -64,8 +65,8 @@ impl Html {
         }
     }
 
-    /// Appends lines of text, each with its line end. They contain no markup, even in the value of
-    /// an attribute.
+    /// Appends lines of text, with their line ends. No character is read as markup, even in the
+    /// value of an attribute.
     pub fn push_lines(&mut self, text: &str)
         ensures { Gains (escaped_lines text.now) self.old self.new }
     {
@@ -74,7 +75,7 @@ impl Html {
         }
     }
 
-    /// Appends a character of lines: LF as it is, and any other one as text.
+    /// Appends a character of lines: LF unchanged, and any other character as text.
     fn push_line_char(&mut self, character: char)
         ensures { Gains (escaped_line_char character) self.old self.new }
     {
@@ -85,8 +86,8 @@ impl Html {
         }
     }
 
-    /// Appends the line end after a character, if the character is LF. In preformatted text it ends
-    /// a line of the page.
+    /// Appends LF if `character` is LF, otherwise nothing. In preformatted text, LF ends a line of
+    /// the page.
     pub fn push_line_end(&mut self, character: char)
         ensures { Gains (line_end character) self.old self.new }
     {
@@ -95,14 +96,14 @@ impl Html {
         }
     }
 
-    /// Appends a number.
+    /// Appends a number in decimal.
     pub fn push_number(&mut self, number: usize)
         ensures { Gains (decimal number) self.old self.new }
     {
         self.page.push_number(number);
     }
 
-    /// Returns the whole text.
+    /// Returns the HTML as a text.
     ///
     /// # Errors
     ///

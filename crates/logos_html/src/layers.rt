@@ -1,11 +1,11 @@
-//! The cells of states in a drawing: the column of a state is its distance from the root. Used by
-//! `drawing`.
+//! Assigns a cell of a drawing to each state: its column is the state's distance from the root.
+//! Used by `drawing`.
 
 use logos_graph::graph::StateData;
 use std::alloc::{AllocError, Global};
 use std::cmp::max;
 
-/// The column of a state that is not reached yet.
+/// The column of a state that has not been reached.
 const UNREACHED: usize = usize::MAX;
 
 /// The cell of a state: its column, and its row in that column.
@@ -15,7 +15,7 @@ pub(crate) struct Cell {
     pub(crate) row: usize,
 }
 
-/// The cells of all states, and the numbers of columns and rows.
+/// The cells of all states of a graph, and the numbers of columns and rows.
 #[derive(Drop)]
 pub(crate) struct Layers {
     pub(crate) cells: Vec<Cell>,
@@ -23,7 +23,7 @@ pub(crate) struct Layers {
     pub(crate) rows: usize,
 }
 
-/// Returns the cells of all states of a graph.
+/// Returns the cells of all states of a graph, in the order of the states.
 ///
 /// # Errors
 ///
@@ -43,7 +43,8 @@ pub(crate) fn layers_of(alloc: Global, states: &[&StateData]) -> Result<Layers, 
     Ok(layers)
 }
 
-/// Returns the number of states in a column, and increases it by one.
+/// Returns the number of states in a column so far, and increases it by one. Returns 0 for a column
+/// beyond `filled`.
 fn next_row(filled: &mut Vec<usize>, column: usize) -> usize {
     if column < filled.len() {
         let row = filled[column];
@@ -53,7 +54,8 @@ fn next_row(filled: &mut Vec<usize>, column: usize) -> usize {
     0
 }
 
-/// Adds the cell of the next state.
+/// Adds the cell of the next state to `layers`, and enlarges the numbers of columns and rows so
+/// that they cover it.
 fn add_cell(layers: &mut Layers, column: usize, row: usize) -> Result<(), AllocError> {
     layers.cells.push(Cell { column, row })?;
     layers.columns = max(layers.columns, column.saturating_add(1));
@@ -61,7 +63,7 @@ fn add_cell(layers: &mut Layers, column: usize, row: usize) -> Result<(), AllocE
     Ok(())
 }
 
-/// Returns the distance of each state from the root.
+/// Returns the distance of each state from the root, in edges.
 fn columns_of(alloc: Global, states: &[&StateData]) -> Result<Vec<usize>, AllocError> {
     let mut columns = vec![in alloc; UNREACHED; states.len()]?;
     let mut reached = Vec::new(alloc);
@@ -72,7 +74,8 @@ fn columns_of(alloc: Global, states: &[&StateData]) -> Result<Vec<usize>, AllocE
     Ok(columns)
 }
 
-/// Reaches the targets of the edges of the state at the index `at` of `reached`, if there is one.
+/// Reaches the targets of the edges of the state at the index `at` of `reached`. Changes nothing if
+/// there is no such state.
 fn reach_next(
     columns: &mut Vec<usize>,
     reached: &mut Vec<usize>,
@@ -95,7 +98,7 @@ fn reach_next(
     }
 }
 
-/// Returns the number at an index of a list, if there is one.
+/// Returns the number at the index `at`, or `None` if there is none.
 fn number_at(numbers: &[usize], at: usize) -> Option<usize> {
     match numbers.get(at) {
         Some(number) => Some(*number),
@@ -103,7 +106,7 @@ fn number_at(numbers: &[usize], at: usize) -> Option<usize> {
     }
 }
 
-/// Returns the column of a state, or 0 if there is no such state.
+/// Returns the column of the state with the number `state`, or 0 if there is no such state.
 fn column_at(columns: &[usize], state: usize) -> usize {
     match columns.get(state) {
         Some(column) => *column,
@@ -111,7 +114,8 @@ fn column_at(columns: &[usize], state: usize) -> usize {
     }
 }
 
-/// Reaches a state in a column, if it was not reached before.
+/// Appends a state to `reached` and records its column, unless the state was reached before or does
+/// not exist.
 fn reach(
     columns: &mut Vec<usize>,
     reached: &mut Vec<usize>,

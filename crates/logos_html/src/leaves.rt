@@ -1,4 +1,4 @@
-//! The leaves of a lexer as a table of a page. Used by `document`.
+//! Writes the leaves of a lexer as a table of a page. Used by `document` and `states`.
 
 use crate::html::Html;
 use logos_answers::{Evidence, evidence_of, name_at, push_quoted};
@@ -7,7 +7,7 @@ use logos_inspect::LeafRow;
 use logos_page::Page;
 use std::alloc::{AllocError, Global};
 
-/// Appends the section of the leaves of a graph, with these rows.
+/// Appends the section of the leaves of `graph`, which `rows` describe.
 ///
 /// # Errors
 ///
@@ -41,7 +41,7 @@ another leaf.</p>
     Ok(())
 }
 
-/// Appends the row of a leaf.
+/// Appends the row of the leaf with the number `number`.
 fn push_row(
     alloc: Global,
     html: &mut Html,
@@ -62,7 +62,7 @@ fn push_row(
     Ok(())
 }
 
-/// Appends the cell with the number of a leaf, in its color.
+/// Appends the beginning of the row of a leaf, and the cell with its number, in its color.
 fn push_number_cell(html: &mut Html, number: usize) {
     html.push_markup("<tr id=\"leaf-");
     html.push_number(number);
@@ -73,7 +73,7 @@ fn push_number_cell(html: &mut Html, number: usize) {
     html.push_markup("</span></th>");
 }
 
-/// Appends the cells with the variant and the kind of a leaf.
+/// Appends the cells with the variant and the kind of a leaf. A skip has no variant.
 fn push_name_cells(html: &mut Html, row: LeafRow<'_>) {
     html.push_markup("<td>");
     match row.variant {
@@ -87,7 +87,7 @@ fn push_name_cells(html: &mut Html, row: LeafRow<'_>) {
     });
 }
 
-/// Appends the cell with the pattern of a leaf, and with its options.
+/// Appends the cell with the pattern of a leaf, and with the options that are set for it.
 fn push_pattern_cell(html: &mut Html, row: LeafRow<'_>) {
     html.push_markup("<td><code>");
     html.push_text(row.pattern);
@@ -101,7 +101,7 @@ fn push_pattern_cell(html: &mut Html, row: LeafRow<'_>) {
     html.push_markup("</td>");
 }
 
-/// Appends the cell with the priority of a leaf.
+/// Appends the cell with the priority of a leaf, and whether the priority is the default.
 fn push_priority_cell(html: &mut Html, row: LeafRow<'_>) {
     html.push_markup("<td class=\"n\">");
     html.push_number(row.priority);
@@ -111,7 +111,7 @@ fn push_priority_cell(html: &mut Html, row: LeafRow<'_>) {
     html.push_markup("</td>");
 }
 
-/// Appends the cell with the callback of a leaf.
+/// Appends the cell with the callback of a leaf, which is empty if there is none.
 fn push_callback_cell(html: &mut Html, row: LeafRow<'_>) {
     html.push_markup("<td>");
     if let Some(callback) = row.callback {
@@ -122,14 +122,15 @@ fn push_callback_cell(html: &mut Html, row: LeafRow<'_>) {
     html.push_markup("</td>");
 }
 
-/// Appends the cell with the line of a leaf.
+/// Appends the cell with the line of a leaf in its file.
 fn push_line_cell(html: &mut Html, line: usize) {
     html.push_markup("<td class=\"n\">");
     html.push_number(line);
     html.push_markup("</td>");
 }
 
-/// Appends the cell with a text that a leaf finds, or with the statement that it finds none.
+/// Appends the cell with an input in which the lexer finds the leaf first, or with the statement
+/// that the lexer never finds it.
 fn push_example_cell(
     alloc: Global,
     html: &mut Html,
@@ -146,7 +147,8 @@ fn push_example_cell(
     Ok(())
 }
 
-/// Appends the cell with a text that a leaf loses, and with the leaf that is found instead.
+/// Appends the cell with a text that a leaf matches and loses, and with the leaf that is found
+/// instead. The cell is empty if the leaf loses none.
 fn push_loss_cell(
     alloc: Global,
     html: &mut Html,
@@ -163,7 +165,7 @@ fn push_loss_cell(
     Ok(())
 }
 
-/// Appends a link to a leaf, with its name and its number.
+/// Appends a link to the row of a leaf, with the leaf's name and its number.
 pub(crate) fn push_leaf_link(html: &mut Html, graph: &Graph<'_>, leaf: usize) {
     html.push_markup("<a href=\"#leaf-");
     html.push_number(leaf);
@@ -174,7 +176,7 @@ pub(crate) fn push_leaf_link(html: &mut Html, graph: &Graph<'_>, leaf: usize) {
     html.push_markup(")</a>");
 }
 
-/// Appends bytes in quotes, as code.
+/// Appends bytes in quotes as an HTML `code` element.
 fn push_code(alloc: Global, html: &mut Html, bytes: &[u8]) -> Result<(), AllocError> {
     let mut quoted = Page::new(alloc, false);
     push_quoted(&mut quoted, bytes);

@@ -1,6 +1,6 @@
 //! The page of a lexer: an HTML file with its leaves, an input in which its items are marked, its
-//! states, and a drawing of them. In it the texts of sources and inputs are text, never markup.
-//! Called by `logos_show` for `--html`.
+//! states, and a drawing of them. In it, texts of sources and inputs are text, never markup.
+//! Used by `logos_show` for `--html`.
 
 #![tactic(auto)]
 

@@ -1,4 +1,5 @@
-//! The bytes after an offset on which the matches from there depend. Used by `descriptions`.
+//! Counts the bytes after an offset on which the matches from the offset depend. Used by
+//! `descriptions`.
 
 ghost use Rattle.std.specs.Prelude.{◌≡◌, ◌<◌, ℕ, IfSome, IsTrue, Some, length};
 ghost use Rattle.logos_html.specs.Imports.{IsDead, IsEnough, dfa_next, dfa_of};
@@ -9,9 +10,10 @@ use logos_automaton::dfa::{Dfa, StateId};
 /// The number of values of a byte.
 const BYTES: usize = 256;
 
-/// Returns the number of the first bytes of `rest` after which no match from its beginning can end,
-/// or the length of `rest` if there is no such number. Returns `None` if more than `most` bytes are
-/// needed, or if the automaton has no dead state.
+/// Returns how many first bytes of `rest` decide which matches start at its beginning: the number
+/// of bytes after which the automaton is in its dead state, or the length of `rest` if it never is.
+/// Returns `None` if the automaton has no dead state, or if `rest` is longer than `most` bytes and
+/// fewer than `most` do not suffice.
 pub(crate) fn enough_bytes(dfa: &Dfa, rest: &[u8], most: usize) -> Option<usize>
     ensures { IfSome result (IsEnough (dfa_of dfa.now) rest.now) }
 {
@@ -32,7 +34,8 @@ pub(crate) fn enough_bytes(dfa: &Dfa, rest: &[u8], most: usize) -> Option<usize>
     Some(rest.len())
 }
 
-/// Returns whether a state lists no leaf and leads only to itself.
+/// Returns whether a state has no leaf, and each byte and the end of the input lead from it to
+/// itself.
 fn is_dead(dfa: &Dfa, state: StateId) -> bool
     requires { state.0 < length (dfa_of dfa.now).matches }
     ensures { IsTrue result → IsDead (dfa_of dfa.now) state.0 }

@@ -1,4 +1,4 @@
-//! The text of an input, with a marked span for each of its items. Used by `document`.
+//! Writes the text of an input, with an HTML span for each of its items. Used by `document`.
 
 ghost use Rattle.std.specs.Prelude.{◌≡◌, decimal, map};
 ghost use Rattle.logos_html.specs.Views.{Gains, class_text, described_of, description_text, end_of, extent_label, item_head, item_markup, item_of, items_text, location_label, moved, name_label, next_text, part_of, label_end, priority_at, priority_label, range_text, slice_text, span_data, start_of, token_head};
@@ -13,19 +13,19 @@ use logos_machine::machine::Item;
 use logos_pattern::leaf::Leaf;
 use logos_token::token::Span;
 
-/// The number of colors that the leaves share.
+/// The number of colors. Leaf `n` has the color `n % COLORS`.
 const COLORS: usize = 8;
 
-/// An input whose front is shown, with the leaves of its lexer.
+/// An input whose front is shown on a page, with the leaves of its lexer.
 #[derive(Clone, Copy)]
 pub(crate) struct ShownInput<'a, 's> {
     pub(crate) leaves: &'a [Leaf<'s>],
     pub(crate) bytes: &'a [u8],
-    /// The end of the shown front, in bytes.
+    /// The end of the shown front, as an offset in bytes.
     pub(crate) end: usize,
 }
 
-/// Appends the front of an input, with a span for each of these items.
+/// Appends the shown front of an input, with an HTML span around each of `items`.
 pub(crate) fn push_items(html: &mut Html, shown: ShownInput<'_, '_>, items: &[Described<'_>])
     ensures { Gains (items_text shown.entry.leaves.now shown.entry.bytes.now shown.entry.end 0 0
         (map described_of items.now)) html.old html.new }
@@ -39,8 +39,8 @@ pub(crate) fn push_items(html: &mut Html, shown: ShownInput<'_, '_>, items: &[De
     push_bytes(html, part_of(shown, at, shown.end));
 }
 
-/// Appends the bytes from the offset `at` to an item, and the span of the item. Moves the cursor to
-/// the item.
+/// Appends the shown bytes from the offset `at` to an item, and the HTML span of the item. Moves
+/// `cursor` to the start of the item.
 fn push_next(
     html: &mut Html,
     shown: ShownInput<'_, '_>,
@@ -62,14 +62,14 @@ fn push_next(
     push_item(html, shown, item, cursor.location());
 }
 
-/// Returns the shown bytes between two offsets.
+/// Returns the shown bytes of an input between the offsets `from` and `to`.
 fn part_of<'a>(shown: ShownInput<'a, '_>, from: usize, to: usize) -> &'a [u8]
     ensures { result.now ≡ part_of shown.entry.bytes.now shown.entry.end from to }
 {
     bytes_between(shown.bytes, from, to.min(shown.end))
 }
 
-/// Appends the span of an item.
+/// Appends the HTML span of an item that starts at `location`.
 fn push_item(html: &mut Html, shown: ShownInput<'_, '_>, item: &Described<'_>, location: Location)
     ensures { Gains (item_markup shown.entry.leaves.now shown.entry.bytes.now shown.entry.end
         location (described_of item.now)) html.old html.new }
@@ -81,7 +81,7 @@ fn push_item(html: &mut Html, shown: ShownInput<'_, '_>, item: &Described<'_>, l
     push_slice(html, shown, span);
 }
 
-/// Appends the beginning of the span of an item.
+/// Appends the beginning of the HTML span of an item, up to the location in its label.
 fn push_head(html: &mut Html, leaves: &[Leaf<'_>], item: Item<'_>)
     ensures { Gains (item_head leaves.now (item_of item.entry)) html.old html.new }
 {
@@ -93,7 +93,8 @@ fn push_head(html: &mut Html, leaves: &[Leaf<'_>], item: Item<'_>)
     }
 }
 
-/// Appends the description of an item, if there is one, and ends the beginning of its span.
+/// Appends the description of an item as an attribute, unless it is empty, and ends the start tag
+/// of the item.
 fn push_description(html: &mut Html, description: &str)
     ensures { Gains (description_text description.now) html.old html.new }
 {
@@ -105,7 +106,8 @@ fn push_description(html: &mut Html, description: &str)
     html.push_markup("\">");
 }
 
-/// Appends the beginning of the span of a token, with the facts about its leaf.
+/// Appends the beginning of the HTML span of a match, with the color, the name, the number and the
+/// priority of its leaf.
 fn push_token_head(html: &mut Html, leaves: &[Leaf<'_>], leaf: usize)
     ensures { Gains (token_head leaves.now leaf) html.old html.new }
 {
@@ -114,7 +116,7 @@ fn push_token_head(html: &mut Html, leaves: &[Leaf<'_>], leaf: usize)
     push_priority(html, leaves, leaf);
 }
 
-/// Appends the beginning of the span of a token, with the color of its leaf.
+/// Appends the beginning of the HTML span of a match, with the color and the number of its leaf.
 fn push_class(html: &mut Html, leaf: usize)
     ensures { Gains (class_text leaf) html.old html.new }
 {
@@ -124,7 +126,7 @@ fn push_class(html: &mut Html, leaf: usize)
     html.push_number(leaf);
 }
 
-/// Appends the name and the number of a leaf to a label.
+/// Appends the beginning of the label of a match, with the name and the number of its leaf.
 fn push_name(html: &mut Html, leaves: &[Leaf<'_>], leaf: usize)
     ensures { Gains (name_label leaves.now leaf) html.old html.new }
 {
@@ -134,7 +136,7 @@ fn push_name(html: &mut Html, leaves: &[Leaf<'_>], leaf: usize)
     html.push_number(leaf);
 }
 
-/// Appends the priority of a leaf to a label.
+/// Appends the priority of a leaf to the label of a match.
 fn push_priority(html: &mut Html, leaves: &[Leaf<'_>], leaf: usize)
     ensures { Gains (priority_label leaves.now leaf) html.old html.new }
 {
@@ -142,7 +144,7 @@ fn push_priority(html: &mut Html, leaves: &[Leaf<'_>], leaf: usize)
     html.push_number(priority_at(leaves, leaf));
 }
 
-/// Returns the priority of a leaf, or 0 if there is no such leaf.
+/// Returns the priority of the leaf with the number `leaf`, or 0 if there is no such leaf.
 fn priority_at(leaves: &[Leaf<'_>], leaf: usize) -> usize
     ensures { result ≡ priority_at leaves.now leaf }
 {
@@ -152,8 +154,8 @@ fn priority_at(leaves: &[Leaf<'_>], leaf: usize) -> usize
     }
 }
 
-/// Appends the rest of a label, which is the location and the span of an item, and then the span
-/// for programs.
+/// Appends the rest of the label of an item, which is its location and its span, and the attribute
+/// with its span for programs.
 fn push_label_end(html: &mut Html, span: Span, location: Location)
     ensures { Gains (label_end span.from span.to location) html.old html.new }
 {
@@ -162,7 +164,7 @@ fn push_label_end(html: &mut Html, span: Span, location: Location)
     push_data(html, span);
 }
 
-/// Appends a location to a label.
+/// Appends the line and the column of an item to its label.
 fn push_location(html: &mut Html, location: Location)
     ensures { Gains (location_label location) html.old html.new }
 {
@@ -172,7 +174,7 @@ fn push_location(html: &mut Html, location: Location)
     html.push_number(location.column);
 }
 
-/// Appends a span to a label.
+/// Appends the span of an item to its label.
 fn push_extent(html: &mut Html, span: Span)
     ensures { Gains (extent_label span.from span.to) html.old html.new }
 {
@@ -180,7 +182,7 @@ fn push_extent(html: &mut Html, span: Span)
     push_range(html, span);
 }
 
-/// Appends the end of a label, and the span for programs.
+/// Appends the end of the label of an item, and the attribute with its span for programs.
 fn push_data(html: &mut Html, span: Span)
     ensures { Gains (span_data span.from span.to) html.old html.new }
 {
@@ -189,7 +191,7 @@ fn push_data(html: &mut Html, span: Span)
     html.push_markup("\"");
 }
 
-/// Appends the offsets of a span.
+/// Appends the offsets of a span, with `..` between them.
 fn push_range(html: &mut Html, span: Span)
     ensures { Gains (range_text span.from span.to) html.old html.new }
 {
@@ -198,7 +200,7 @@ fn push_range(html: &mut Html, span: Span)
     html.push_number(span.to);
 }
 
-/// Appends the shown bytes of an item, and ends its span.
+/// Appends the shown bytes of the item with the span `span`, and ends the item's HTML span.
 fn push_slice(html: &mut Html, shown: ShownInput<'_, '_>, span: Span)
     ensures { Gains (slice_text shown.entry.bytes.now shown.entry.end span.from span.to)
         html.old html.new }

@@ -1,4 +1,5 @@
-//! The states of a graph as a table of a page, with links between them. Used by `document`.
+//! Writes the states of a graph as a table of a page, with links between the states. Used by
+//! `document`.
 
 use crate::classes::push_class;
 use crate::html::Html;
@@ -7,14 +8,14 @@ use logos_attempts::Entries;
 use logos_graph::graph::{Graph, State, StateData, StateType};
 use std::alloc::{AllocError, Global};
 
-/// The maximum number of states that are listed.
+/// The maximum number of states that the table lists.
 const LISTED: usize = 1000;
 
-/// The maximum number of ranges of an edge that are shown.
+/// The maximum number of byte ranges that are shown for an edge.
 const RANGES: usize = 12;
 
-/// Appends the section of the states of a graph, with the number of entries of each state if an
-/// input is shown.
+/// Appends the section of the states of a graph. If an input is shown, `entries` are the counts of
+/// how often its match attempts enter each state.
 ///
 /// # Errors
 ///
@@ -42,7 +43,8 @@ entered. Sets of bytes are written as in a pattern.</p>
     Ok(())
 }
 
-/// Appends the head of the table, after the meaning of the counts if there are any.
+/// Appends the head of the table. If `entries` are given, the meaning of their counts comes before
+/// it, and it has a column for them.
 fn push_head(html: &mut Html, entries: Option<&Entries>) {
     if let Some(entries) = entries {
         html.push_markup(
@@ -63,7 +65,7 @@ fn push_head(html: &mut Html, entries: Option<&Entries>) {
     html.push_markup("<th scope=\"col\">Edges</th></tr>\n</thead>\n<tbody>\n");
 }
 
-/// Appends the number of listed states, if not all states are listed.
+/// Appends the sentence that only the first states are listed, if `count` states are too many.
 fn push_cut(html: &mut Html, count: usize) {
     if count > LISTED {
         html.push_markup("<p class=\"cut\">The first ");
@@ -74,7 +76,7 @@ fn push_cut(html: &mut Html, count: usize) {
     }
 }
 
-/// Appends the row of a state, if it is listed.
+/// Appends the row of the state with the number `number`, or nothing if the state is not listed.
 fn push_listed(
     alloc: Global,
     html: &mut Html,
@@ -100,7 +102,7 @@ fn push_listed(
     Ok(())
 }
 
-/// Appends the cell with the number of entries of a state, if entries were counted.
+/// Appends the cell with the number of entries of a state, or nothing if no entries were counted.
 fn push_count(html: &mut Html, number: usize, entries: Option<&Entries>) {
     if let Some(entries) = entries {
         html.push_markup("<td class=\"n\">");
@@ -109,7 +111,7 @@ fn push_count(html: &mut Html, number: usize, entries: Option<&Entries>) {
     }
 }
 
-/// Returns the count of a state, or 0 if there is no such state.
+/// Returns the count of the state with the number `state`, or 0 if there is none.
 fn count_at(counts: &[usize], state: usize) -> usize {
     match counts.get(state) {
         Some(count) => *count,
@@ -117,7 +119,8 @@ fn count_at(counts: &[usize], state: usize) -> usize {
     }
 }
 
-/// Appends the mark of a state, if it has one.
+/// Appends the mark of a state, or nothing if the state has none. Of two marks only the early one
+/// is shown.
 fn push_mark(html: &mut Html, graph: &Graph<'_>, state_type: StateType) {
     match (state_type.early, state_type.accept) {
         (Some(leaf), _) => {
@@ -132,7 +135,7 @@ fn push_mark(html: &mut Html, graph: &Graph<'_>, state_type: StateType) {
     }
 }
 
-/// Appends the edges of a state.
+/// Appends the edges of a state as the items of an HTML list.
 fn push_edges(alloc: Global, html: &mut Html, state: &StateData) -> Result<(), AllocError> {
     for edge in &state.normal {
         html.push_markup("<li><code>");
@@ -145,7 +148,7 @@ fn push_edges(alloc: Global, html: &mut Html, state: &StateData) -> Result<(), A
     Ok(())
 }
 
-/// Appends the edge for the end of the input, if there is one.
+/// Appends the edge for the end of the input, or nothing for `None`.
 fn push_end_edge(html: &mut Html, end: Option<State>) {
     if let Some(target) = end {
         html.push_markup("<li>end of input to ");
@@ -154,7 +157,7 @@ fn push_end_edge(html: &mut Html, end: Option<State>) {
     }
 }
 
-/// Appends a link to a state, or its number if it is not listed.
+/// Appends the number of a state, as a link to its row if the state is listed.
 fn push_state_link(html: &mut Html, state: State) {
     let number = state.index();
     if number >= LISTED {

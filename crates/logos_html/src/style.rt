@@ -1,8 +1,8 @@
-//! The style of a page: it is part of the page, so that it needs nothing from elsewhere. Used by
+//! The style sheet of a page, which is part of the page, so that no other file is needed. Used by
 //! `document`.
 
-/// The style sheet: light and dark, narrow and wide, and for paper. Details of an item are shown at
-/// the bottom while the item has the focus or the pointer.
+/// The style sheet: for light and dark, narrow and wide screens, and for paper. The label and the
+/// description of an item are shown at the bottom while the item has the focus or the pointer.
 pub(crate) const STYLE: &str = "\
 :root {
   color-scheme: light dark; scroll-padding-bottom: 14rem;

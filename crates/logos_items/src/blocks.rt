@@ -1,4 +1,4 @@
-//! Blocks of text, written when they are full. Used by `inputs`, `lines`, `records` and `streams`.
+//! Writes blocks of text when they are full. Used by `inputs`, `lines`, `records` and `streams`.
 
 ghost use Rattle.std.specs.Prelude.{IfErr};
 ghost use Rattle.logos_items.specs.Imports.{IsNoMisuse};
@@ -6,10 +6,14 @@ ghost use Rattle.logos_items.specs.Imports.{IsNoMisuse};
 use logos_host::{Failure, write_full};
 use std::io::Write;
 
-/// The minimum length of a block that is written, in bytes.
+/// The least length of a full block, in bytes.
 pub(crate) const BLOCK: usize = 65_536;
 
-/// Writes a block and empties it, if it is full.
+/// Writes a block and empties it if it has at least `BLOCK` bytes, otherwise changes nothing.
+///
+/// # Errors
+///
+/// Returns `Output` or `Closed` if writing fails. Then a part of the block may have been written.
 #[inline(always)]
 pub(crate) fn write_if_full<O: Write>(
     block: &mut Vec<u8>,

@@ -15,25 +15,26 @@ use logos_scan::walk::masks::ChunkEntries;
 use std::alloc::{AllocError, Global};
 use std::io::Write;
 
-/// A block of text, to which items are appended in the order of the input.
+/// A block of text, to which the items of an input are appended in order.
 pub(crate) trait ItemBlock {
-    /// Appends an item, and counts it.
+    /// Appends the text of an item, and counts the item.
     ///
     /// # Errors
     ///
     /// Returns `AllocError` if memory runs out.
     fn add(&mut self, item: Item<'_>) -> Result<(), AllocError>;
 
-    /// Returns the text that is not yet written.
+    /// Returns the text that has not been written.
     fn text(&mut self) -> &mut Vec<u8>;
 }
 
-/// Writes each item of an input in blocks. The caller writes the last block.
+/// Writes each item of an input in blocks. The last items remain in `block` for the caller to
+/// write.
 ///
 /// # Errors
 ///
-/// Returns `NotUtf8` if the lexer reads UTF-8 and the input is not UTF-8, `Output` if writing
-/// fails, and `Memory` if memory runs out.
+/// Returns `NotUtf8` if the lexer reads UTF-8 and the input is not UTF-8, `Output` or `Closed` if
+/// writing fails, and `Memory` if memory runs out.
 pub(crate) fn write_all<B: ItemBlock, O: Write>(
     alloc: Global,
     code: &Code<'_>,
@@ -58,7 +59,7 @@ pub(crate) fn write_all<B: ItemBlock, O: Write>(
     }
 }
 
-/// Writes each item of an input, found in chunks.
+/// Writes each item of an input in blocks, found by a scan. The last items remain in `block`.
 fn write_by_chunks<C: Fn(LeafId, &[u8]) -> Action, B: ItemBlock, O: Write>(
     folded: &Folded<'_, '_>,
     input: &[u8],
@@ -79,7 +80,7 @@ fn write_by_chunks<C: Fn(LeafId, &[u8]) -> Action, B: ItemBlock, O: Write>(
     Ok(())
 }
 
-/// Writes each remaining item of a lexer.
+/// Writes each remaining item of a lexer in blocks. The last items remain in `block`.
 fn write_lexed<C: Fn(LeafId, &[u8]) -> Action, B: ItemBlock, O: Write>(
     lexer: &mut Lexer<'_, '_, '_, C>,
     block: &mut B,

@@ -1,4 +1,4 @@
-//! The items of an input, one line for each. Used by `logos_show`.
+//! Writes the items of an input, one line for each. Used by `logos_show`.
 
 ghost use Rattle.std.specs.Prelude.{IfErr};
 ghost use Rattle.logos_items.specs.Imports.{IsNoMisuse};
@@ -16,13 +16,13 @@ use std::alloc::AllocError;
 use std::io::Write;
 use std::time::Clock;
 
-/// Writes a line for each item of an input, and then the counts. Returns a note about callbacks,
-/// which is empty if no leaf with a callback has an item.
+/// Writes a line for each item of an input, and then the counts. Returns the note about the
+/// callbacks of leaves that have items, which is empty if there are none.
 ///
 /// # Errors
 ///
-/// Returns `NotUtf8` if the lexer reads UTF-8 and the input is not UTF-8, `Output` if writing
-/// fails, and `Memory` if memory runs out.
+/// Returns `NotUtf8` if the lexer reads UTF-8 and the input is not UTF-8, `Output` or `Closed` if
+/// writing fails, and `Memory` if memory runs out.
 pub fn write_items<O: Write, C: Clock>(
     order: ItemOrder<'_>,
     made: &Generated<'_>,
@@ -51,7 +51,7 @@ pub fn write_items<O: Write, C: Clock>(
     Ok(note)
 }
 
-/// The lines of the items of an input, and the location of the last one.
+/// The lines of the items of an input, and the point of the input at which the last item starts.
 #[derive(Drop)]
 struct InputLines<'t> {
     lines: Lines,

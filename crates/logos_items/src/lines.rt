@@ -1,5 +1,5 @@
-//! The lines of items: those that are not yet written, the names of leaves in them, and the counts.
-//! Used by `items`, `streams` and `logos_show`.
+//! Assembles the lines of items, with the names of leaves, and counts the items. Used by `items`,
+//! `streams` and `logos_show`.
 
 ghost use Rattle.std.specs.Prelude.{◌≡◌, ◌++◌, OnOk};
 ghost use Rattle.logos_items.specs.Imports.{totals_text};
@@ -16,7 +16,7 @@ use std::alloc::{AllocError, Global};
 use std::str;
 use std::time::{Clock, Duration};
 
-/// The name of an error in its line.
+/// The head of the line of an error: the text between its location and its bytes.
 pub(crate) const ERROR: &[u8] = b"  <error>  \"";
 
 /// The settings for writing the items of an input.
@@ -29,29 +29,34 @@ pub struct ItemOrder<'w> {
     pub screen: Screen,
 }
 
-/// The destination of the lines of items.
+/// The lines of items that have not been written, with the counts of all items so far.
 #[derive(Drop)]
 pub(crate) struct Lines {
-    /// The lines that are not yet written.
+    /// The lines that have not been written.
     pub(crate) block: Vec<u8>,
     pub(crate) canvas: Canvas,
     pub(crate) counts: Counts,
-    /// For each leaf the part of a line between the location and the text: its variant, with the
-    /// separators around it.
+    /// The head of the lines of each leaf: the text between the location and the item's bytes,
+    /// which is the variant with separators.
     pub(crate) heads: Vec<Vec<u8>>,
 }
 
-/// The form of lines, and the buffers in which they are assembled.
+/// The form of lines, and the buffers in which a line is assembled.
 #[derive(Drop)]
 pub(crate) struct Canvas {
     screen: Screen,
-    /// The buffer for a short line.
+    /// The buffer in which a short line is assembled.
     line: [u8; LINE],
     /// The buffer for a line that is colored or cut before it is appended.
     plain: Vec<u8>,
 }
 
-/// Returns empty lines, with zero counts.
+/// Returns the lines of an input before its first item, with zero counts and the heads of the
+/// leaves of `code`.
+///
+/// # Errors
+///
+/// Returns `AllocError` if memory runs out.
 pub(crate) fn no_lines(order: ItemOrder<'_>, code: &Code<'_>) -> Result<Lines, AllocError> {
     let alloc = order.alloc;
     Ok(Lines {
@@ -66,7 +71,8 @@ pub(crate) fn no_lines(order: ItemOrder<'_>, code: &Code<'_>) -> Result<Lines, A
     })
 }
 
-/// Appends the line of an item: its location, its head, which names it, and its text in quotes.
+/// Appends the line of an item to `block`: its location, its head, which names it, and its bytes in
+/// quotes.
 ///
 /// # Errors
 ///
@@ -85,7 +91,8 @@ pub(crate) fn push_line(
     push_styled(block, canvas, location, head, slice)
 }
 
-/// Appends the line of an item with colors, or cut to a width.
+/// Appends the line of an item to `block`, with colors or cut to a width, as the screen of `canvas`
+/// requires.
 fn push_styled(
     block: &mut Vec<u8>,
     canvas: &mut Canvas,
@@ -110,7 +117,11 @@ fn push_styled(
     }
 }
 
-/// Appends the counts for a whole input. If memory runs out, nothing was appended.
+/// Appends the counts for a whole input to the block of `lines`.
+///
+/// # Errors
+///
+/// Returns `AllocError` if memory runs out. Then nothing was appended.
 pub(crate) fn push_totals(
     order: ItemOrder<'_>,
     made: &Generated<'_>,
@@ -130,7 +141,7 @@ pub(crate) fn push_totals(
     lines.block.extend_from_slice(text.as_bytes())
 }
 
-/// Returns the heads of the lines of these leaves.
+/// Returns the head of the lines of each of `leaves`.
 fn heads_of(alloc: Global, leaves: &[CodeLeaf<'_>]) -> Result<Vec<Vec<u8>>, AllocError> {
     let mut heads = Vec::new(alloc);
     for number in 0..leaves.len() {
@@ -139,7 +150,8 @@ fn heads_of(alloc: Global, leaves: &[CodeLeaf<'_>]) -> Result<Vec<Vec<u8>>, Allo
     Ok(heads)
 }
 
-/// Returns the head of the lines of a variant. A skip has no lines.
+/// Returns the head of the lines of a variant. A skip has no lines, so the head is empty for
+/// `None`.
 fn head_of(alloc: Global, name: Option<&str>) -> Result<Vec<u8>, AllocError> {
     let mut head = Vec::new(alloc);
     if let Some(name) = name {
@@ -150,7 +162,8 @@ fn head_of(alloc: Global, name: Option<&str>) -> Result<Vec<u8>, AllocError> {
     Ok(head)
 }
 
-/// Returns the head of the lines of a leaf.
+/// Returns the head of the lines of the leaf with the number `leaf`, or an empty head if there is
+/// no such leaf.
 #[inline(always)]
 pub(crate) fn head_at(heads: &[Vec<u8>], leaf: usize) -> &[u8] {
     match heads.get(leaf) {
@@ -159,7 +172,7 @@ pub(crate) fn head_at(heads: &[Vec<u8>], leaf: usize) -> &[u8] {
     }
 }
 
-/// Returns the time, if there is a clock.
+/// Returns the time of the clock, or `None` if it cannot be read.
 pub(crate) fn now<C: Clock>(clock: &C) -> Option<Duration> {
     match clock.monotonic() {
         Ok(time) => Some(time),
@@ -167,7 +180,8 @@ pub(crate) fn now<C: Clock>(clock: &C) -> Option<Duration> {
     }
 }
 
-/// Returns the milliseconds between two times, if both are known.
+/// Returns the milliseconds from `start` to `end`, or `None` if a time is unknown, `end` is earlier
+/// or the number exceeds `usize::MAX`.
 pub(crate) fn milliseconds(start: Option<Duration>, end: Option<Duration>) -> Option<usize> {
     let passed = end?.checked_sub(start?)?;
     match usize::try_from(passed.as_millis()) {

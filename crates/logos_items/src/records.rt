@@ -1,4 +1,4 @@
-//! The items of an input, one JSON object for each. Used by `logos_show`.
+//! Writes the items of an input, one JSON object for each. Used by `logos_show`.
 
 ghost use Rattle.std.specs.Prelude.{IfErr};
 ghost use Rattle.logos_items.specs.Imports.{IsNoMisuse, TakesMatches};
@@ -15,13 +15,13 @@ use std::alloc::{AllocError, Global};
 use std::io::Write;
 use std::mem;
 
-/// Writes a JSON object for each item of an input. Returns a note about callbacks, which is empty
-/// if no leaf with a callback has an item.
+/// Writes a JSON object for each item of an input. Returns the note about the callbacks of leaves
+/// that have items, which is empty if there are none.
 ///
 /// # Errors
 ///
-/// Returns `NotUtf8` if the lexer reads UTF-8 and the input is not UTF-8, `Output` if writing
-/// fails, and `Memory` if memory runs out.
+/// Returns `NotUtf8` if the lexer reads UTF-8 and the input is not UTF-8, `Output` or `Closed` if
+/// writing fails, and `Memory` if memory runs out.
 pub fn write_item_records<O: Write>(
     alloc: Global,
     code: &Code<'_>,
@@ -42,16 +42,17 @@ pub fn write_item_records<O: Write>(
     Ok(note)
 }
 
-/// The destination of the objects of items.
+/// The objects of items that have not been written, with the counts of all items so far.
 #[derive(Drop)]
 struct Records {
     alloc: Global,
-    /// The objects that are not yet written.
+    /// The objects that have not been written.
     block: Vec<u8>,
     counts: Counts,
 }
 
-/// Writes an object for each item of an input in blocks. The caller writes the last block.
+/// Writes an object for each item of an input in blocks. The last objects remain in `records` for
+/// the caller to write.
 fn write_all_records<O: Write>(
     code: &Code<'_>,
     input: &[u8],
@@ -72,7 +73,8 @@ fn write_all_records<O: Write>(
     }
 }
 
-/// Writes an object for each remaining item of a lexer in blocks.
+/// Writes an object for each remaining item of a lexer in blocks. The last objects remain in
+/// `records`.
 fn write_records<C: Fn(LeafId, &[u8]) -> Action, O: Write>(
     lexer: &mut Lexer<'_, '_, '_, C>,
     leaves: &[CodeLeaf<'_>],
@@ -90,7 +92,7 @@ fn write_records<C: Fn(LeafId, &[u8]) -> Action, O: Write>(
     Ok(())
 }
 
-/// Appends the object of an item, and counts it.
+/// Adds the object of an item to `records`, and counts the item. Moves `cursor` to its start.
 fn add_record(
     records: &mut Records,
     leaves: &[CodeLeaf<'_>],
@@ -125,7 +127,7 @@ fn add_record(
     }
 }
 
-/// Appends an object to a block. If memory runs out, the block is empty.
+/// Appends an object to a block. If memory runs out, the block is empty afterwards.
 fn push_record(
     alloc: Global,
     block: &mut Vec<u8>,

@@ -1,4 +1,4 @@
-//! The items of standard input, one line for each, written as they are found. Used by `logos_show`.
+//! Writes the items of standard input, one line for each, as they are found. Used by `logos_show`.
 
 ghost use Rattle.std.specs.Prelude.{◌<◌, IfErr};
 ghost use Rattle.logos_items.specs.Imports.{IsNoMisuse, KeepsCode, TakesMatches, unread_length};
@@ -19,18 +19,18 @@ use std::alloc::{AllocError, Global};
 use std::io::{ErrorKind, Input, Read, Write};
 use std::time::Clock;
 
-/// The maximum number of bytes of standard input in memory. A longer token is an error.
+/// The maximum number of bytes of standard input in memory. A longer match is refused.
 const MOST: usize = 16_777_216;
 
-/// Writes a line for each item of standard input, and then the counts. The items that were found
-/// are written before each read. Returns a note about callbacks, which is empty if no leaf with a
-/// callback has an item.
+/// Writes a line for each item of standard input, and then the counts. Before each read, the items
+/// found so far are written. Returns the note about the callbacks of leaves that have items, which
+/// is empty if there are none.
 ///
 /// # Errors
 ///
-/// Returns `NotUtf8` if the lexer reads UTF-8 and the input is not UTF-8, `Refused` if a token is
-/// too long, both after the lines of the items before it; `Read` if reading fails, `Output` if
-/// writing fails, and `Memory` if memory runs out.
+/// Returns `NotUtf8` if the lexer reads UTF-8 and the input is not UTF-8, `Refused` if a match is
+/// too long, `Read` if reading fails, `Output` or `Closed` if writing fails, and `Memory` if memory
+/// runs out. With `NotUtf8` and `Refused`, the lines of the items before the error were written.
 pub fn write_streamed<S: Clock + Input, O: Write>(
     order: ItemOrder<'_>,
     made: &Generated<'_>,
@@ -60,14 +60,14 @@ pub fn write_streamed<S: Clock + Input, O: Write>(
     Ok(note)
 }
 
-/// The reason that a stream is not lexed to its end.
+/// A reason that a stream is not lexed to its end.
 #[derive(Clone, Copy)]
 enum StreamStop {
     NotUtf8,
     TooLong,
 }
 
-/// Returns the failure for a stream that is not lexed past an offset.
+/// Returns the failure for a stream that is lexed only up to an offset, in bytes.
 fn failure_at(alloc: Global, stop: StreamStop, offset: usize) -> Failure<'static>
     ensures { IsNoMisuse result }
 {
@@ -79,7 +79,8 @@ fn failure_at(alloc: Global, stop: StreamStop, offset: usize) -> Failure<'static
     }
 }
 
-/// Returns the failure for a token that begins at an offset and is too long.
+/// Returns the refusal of a match that begins at an offset of standard input, in bytes, and is too
+/// long.
 fn too_long(alloc: Global, offset: usize) -> Failure<'static>
     ensures { IsNoMisuse result }
 {
@@ -92,8 +93,9 @@ fn too_long(alloc: Global, offset: usize) -> Failure<'static>
     }
 }
 
-/// Writes a line for each item of a stream in blocks. The caller writes the last block. Returns the
-/// reason that the stream was not lexed to its end, or `None` if it was.
+/// Writes a line for each item of a stream in blocks. The last lines remain in `lines` for the
+/// caller to write. Returns the reason that the stream was not lexed to its end, or `None` if it
+/// was.
 fn write_stream<R: Read + Drop, C: Fn(LeafId, &[u8]) -> Action + Copy, O: Write>(
     stream: &mut Stream<'_, '_, R, C>,
     lines: &mut Lines,
@@ -121,7 +123,7 @@ fn write_stream<R: Read + Drop, C: Fn(LeafId, &[u8]) -> Action + Copy, O: Write>
     Ok(None)
 }
 
-/// Appends the line of an item, and counts it.
+/// Adds the line of an item at `location` to `lines`, and counts the item.
 fn add_item(
     lines: &mut Lines,
     location: Location,
@@ -141,7 +143,7 @@ fn add_item(
     }
 }
 
-/// Writes the items that were found, and reads once.
+/// Writes the lines of the items found so far, and reads once. An interrupted read is no failure.
 fn read_more<R: Read + Drop, C: Fn(LeafId, &[u8]) -> Action + Copy, O: Write>(
     stream: &mut Stream<'_, '_, R, C>,
     lines: &mut Lines,
@@ -160,7 +162,8 @@ fn read_more<R: Read + Drop, C: Fn(LeafId, &[u8]) -> Action + Copy, O: Write>(
     }
 }
 
-/// Writes the lines that are not yet written.
+/// Writes the lines that have not been written, if there are any. None remain, even if writing
+/// fails.
 fn write_found<O: Write>(lines: &mut Lines, out: &mut O) -> Result<(), Failure<'static>>
     ensures { IfErr result IsNoMisuse }
 {
@@ -184,7 +187,8 @@ fn after(location: Location, bytes: &[u8]) -> Location {
     location
 }
 
-/// Returns the location after one more byte. Continuation bytes of a character do not change it.
+/// Returns the location after a byte at `location`. Continuation bytes of a character do not change
+/// it.
 #[inline(always)]
 fn after_byte(location: Location, byte: u8) -> Location {
     if byte == b'\n' {

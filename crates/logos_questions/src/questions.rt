@@ -1,4 +1,4 @@
-//! The request of `logos_show`, read from its arguments.
+//! Reads the request of `logos_show` from its arguments. Used by `logos_show`.
 
 ghost use Rattle.std.specs.Prelude.{◌≡◌, IfErr, IfOk, Some, map, option_map, string_bytes};
 ghost use Rattle.logos_questions.specs.Imports.{arguments_value, requested, inputs_given, kind_value, matches_given, number_named, option_value, order_given, location_named, question_given, question_named, question_value, request_given, request_value, status_of};
@@ -15,12 +15,12 @@ use logos_options::{
 #[derive(Clone, Copy)]
 pub struct ShowRequest<'w> {
     pub kind: RequestKind<'w>,
-    /// The given settings. They are not in a variant of the kind, since the borrow checker does not
+    /// The given settings. They are not in a variant of `kind`, since the borrow checker does not
     /// cover a variant that holds their array.
     pub settings: Settings<'w>,
 }
 
-/// The kind of a request.
+/// The kind of a request: to print the help or the version, or to answer a question.
 #[derive(Clone, Copy)]
 pub enum RequestKind<'w> {
     Help,
@@ -28,7 +28,7 @@ pub enum RequestKind<'w> {
     Show(FileQuestion<'w>),
 }
 
-/// A question about the lexers of a file.
+/// A question about the lexers of a file, with the path of the file.
 #[derive(Clone, Copy)]
 pub struct FileQuestion<'w> {
     /// The path of the file.
@@ -38,7 +38,7 @@ pub struct FileQuestion<'w> {
     pub style: MessageStyle,
 }
 
-/// A file, and the question about its lexers, with the given settings.
+/// A question about the lexers of a file, with the given settings.
 #[derive(Clone, Copy)]
 pub struct ShowOrder<'w> {
     /// The path of the file.
@@ -58,26 +58,28 @@ pub enum Question<'w> {
     Leaves,
     /// The items of the file at this path.
     Items(&'w str),
-    /// The matches from a location of the file at this path.
+    /// The matches that start at a location of the file at this path.
     Matches(&'w str, Location),
-    /// For each leaf an input that it finds, and one that it loses.
+    /// For each leaf an input in which a lexer finds it, and one that it matches but loses to
+    /// another leaf.
     Examples,
-    /// At most this many inputs that together take all edges of a lexer's graph.
+    /// The first of the inputs that together take all edges of a lexer's graph, at most this many.
     Inputs(usize),
     /// Whether the lexer is equivalent to that of the file at this path.
     Comparison(&'w str),
-    /// A page about a lexer, written to the file at the first path. It is also about the input at
-    /// the second path, if there is one.
+    /// A page about a lexer, written to the file at the first path. The page also shows the input
+    /// at the second path, if there is one.
     Page(&'w str, Option<&'w str>),
     /// The state diagram of a lexer.
     Diagram,
 }
 
-/// Reads the arguments of `logos_show`.
+/// Returns the request that the arguments of `logos_show` make.
 ///
 /// # Errors
 ///
-/// Returns `Misuse` or `UnknownOption` if they are invalid.
+/// Returns `UnknownOption` if an argument is an unknown option, and `Misuse` if the arguments are
+/// invalid otherwise.
 pub fn request_of(arguments: &[String]) -> Result<ShowRequest<'_>, Failure<'_>>
     ensures requested { IfOk result (λ request.
         requested (map string_bytes arguments.now) ≡ Some (request_value request)) }
@@ -90,7 +92,7 @@ pub fn request_of(arguments: &[String]) -> Result<ShowRequest<'_>, Failure<'_>>
     }
 }
 
-/// Returns the request of arguments that were read.
+/// Returns the request that the parsed arguments make.
 fn request_given(arguments: Arguments<'_>) -> Result<ShowRequest<'_>, Failure<'_>>
     ensures requested { IfOk result (λ request. request_given (arguments_value arguments.entry)
         (arguments_value arguments.entry).text ≡ Some (request_value request)) }
@@ -104,7 +106,7 @@ fn request_given(arguments: Arguments<'_>) -> Result<ShowRequest<'_>, Failure<'_
     }
 }
 
-/// Returns the kind of the request of arguments that were read.
+/// Returns the kind of the request that the parsed arguments make.
 fn kind_given(arguments: Arguments<'_>) -> Result<RequestKind<'_>, Failure<'_>>
     ensures requested { IfOk result (λ kind. request_given (arguments_value arguments.entry)
         (arguments_value arguments.entry).text
@@ -119,7 +121,8 @@ fn kind_given(arguments: Arguments<'_>) -> Result<RequestKind<'_>, Failure<'_>>
     }
 }
 
-/// Returns the request for a question about a file.
+/// Returns the request with the question about a file that the parsed arguments make. They must
+/// name the file.
 fn order_given(arguments: Arguments<'_>) -> Result<RequestKind<'_>, Failure<'_>>
     ensures requested { IfOk result (λ kind. order_given (arguments_value arguments.entry)
         (arguments_value arguments.entry).first
@@ -144,7 +147,9 @@ fn order_given(arguments: Arguments<'_>) -> Result<RequestKind<'_>, Failure<'_>>
     }
 }
 
-/// Returns the question about a file, from the given option and the second path.
+/// Returns the question about a file that the option `requested` and the second path `input` make.
+/// Without an option, it is about the items of the second path, or about the leaves if there is
+/// none.
 fn question_given<'w>(
     requested: Option<GivenOption<'w>>,
     input: Option<&'w str>,
@@ -163,7 +168,8 @@ fn question_given<'w>(
     }
 }
 
-/// Returns the question of an option, with an optional second path.
+/// Returns the question that the option `one` and the second path `input` make. Refuses a second
+/// path that is missing or that the option does not take.
 fn question_named<'w>(
     one: GivenOption<'w>,
     input: Option<&'w str>,
@@ -186,7 +192,8 @@ fn question_named<'w>(
     }
 }
 
-/// Returns the question for inputs, whose maximum number is `word`. It takes no second path.
+/// Returns the question for at most `word` inputs. Refuses a `word` that is not a number from 1 on,
+/// and any second path.
 fn inputs_given<'w>(word: &'w str, input: Option<&'w str>) -> Result<Question<'w>, Failure<'w>>
     ensures requested { IfOk result (λ question. inputs_given (number_named word.now)
         (option_map (λ path. path.now) input.entry) ≡ Some (question_value question)) }
@@ -200,7 +207,8 @@ fn inputs_given<'w>(word: &'w str, input: Option<&'w str>) -> Result<Question<'w
     }
 }
 
-/// Returns the question for the matches from the line and column of an input that `word` names.
+/// Returns the question for the matches that start at the line and column `word` of the file at the
+/// path `input`. Refuses a missing path.
 fn matches_given<'w>(word: &'w str, input: Option<&'w str>) -> Result<Question<'w>, Failure<'w>>
     ensures requested { IfOk result (λ question. matches_given (location_named word.now)
         (option_map (λ path. path.now) input.entry) ≡ Some (question_value question)) }

@@ -1,4 +1,4 @@
-//! The JSON object for a comparison of two lexers. Used by `logos_show`.
+//! Writes the JSON object for a comparison of two lexers. Used by `logos_replies`.
 
 ghost use Rattle.std.specs.Prelude.{◌≡◌, ◌++◌, ◌∷◌, [], codes, false, true};
 ghost use Rattle.logos_records.specs.Imports.{Gains, Puts, bool_member, bytes_member, object, finding_member, mode_member};
@@ -6,7 +6,7 @@ ghost use Rattle.logos_records.specs.Imports.{Gains, Puts, bool_member, bytes_me
 use logos_answers::Finding;
 use logos_json::JsonLines;
 
-/// Appends the object for two equivalent lexers.
+/// Appends the line with the object for two equivalent lexers.
 pub fn push_same_record(lines: &mut JsonLines)
     ensures { Puts (object (bool_member (codes "same") true) ∷ []) lines.old lines.new }
 {
@@ -16,7 +16,8 @@ pub fn push_same_record(lines: &mut JsonLines)
     lines.end_line();
 }
 
-/// Appends the object with an input on which two lexers differ, and with the finding of each lexer.
+/// Appends the line with the object for two lexers that differ: an input, and the match or error
+/// that each lexer finds at its beginning.
 pub fn push_difference_record(
     lines: &mut JsonLines,
     input: &[u8],
@@ -36,7 +37,8 @@ pub fn push_difference_record(
     lines.end_line();
 }
 
-/// Appends the finding of a lexer, as a member.
+/// Appends a member with the name `name`: the match or error that a lexer finds at the beginning of
+/// an input.
 fn push_finding(lines: &mut JsonLines, name: &str, finding: Finding<'_>)
     ensures { Gains (finding_member name.now finding.entry) lines.old lines.new }
 {
@@ -48,7 +50,8 @@ fn push_finding(lines: &mut JsonLines, name: &str, finding: Finding<'_>)
     lines.end_object();
 }
 
-/// Appends the object for two lexers of which only one reads UTF-8.
+/// Appends the line with the object for two lexers of which only one reads UTF-8. `one` and `other`
+/// state which.
 pub fn push_modes_record(lines: &mut JsonLines, one: bool, other: bool)
     ensures { Puts (object (bool_member (codes "same") false ++ (mode_member (codes "old") one
         ++ mode_member (codes "new") other)) ∷ []) lines.old lines.new }
@@ -61,7 +64,7 @@ pub fn push_modes_record(lines: &mut JsonLines, one: bool, other: bool)
     lines.end_line();
 }
 
-/// Appends a member that states whether a lexer reads UTF-8.
+/// Appends a member with the name `name`, which states whether a lexer reads UTF-8.
 fn push_mode(lines: &mut JsonLines, name: &str, is_utf8: bool)
     ensures { Gains (mode_member name.now is_utf8) lines.old lines.new }
 {

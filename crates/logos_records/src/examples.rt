@@ -1,4 +1,4 @@
-//! The JSON objects with the inputs that leaves find and lose. Used by `logos_show`.
+//! Writes the JSON objects with the inputs that leaves find and lose. Used by `logos_replies`.
 
 ghost use Rattle.std.specs.Prelude.{◌≡◌, ◌++◌, ◌∷◌, [], OnOk, codes, length, option_map};
 ghost use Rattle.logos_records.specs.Imports.{loss_value, Gains, IsGraphOf, Puts, PutsExample, PutsExamples, bytes_member, example_members, loss_members, maybe_bytes, null_member, number_member, object};
@@ -18,8 +18,8 @@ pub struct NamedGraph<'g, 's> {
 }
 
 /// Appends an object for each leaf of a graph without faults: the name of its enum, the leaf, a
-/// shortest input on which a lexer finds a match of it first, and a shortest one on which it
-/// matches and another leaf is found first, with that leaf.
+/// shortest input in which a lexer finds the leaf first, and a shortest input that the leaf matches
+/// and a lexer finds as another leaf, with the other leaf. A missing input is null.
 ///
 /// # Errors
 ///
@@ -39,7 +39,7 @@ pub fn push_example_records(
     Ok(())
 }
 
-/// Appends the object of a leaf.
+/// Appends the object of the leaf with the number `leaf`.
 fn push_example_record(
     alloc: Global,
     lines: &mut JsonLines,
@@ -60,7 +60,7 @@ fn push_example_record(
     Ok(())
 }
 
-/// Appends the inputs that a leaf finds and loses.
+/// Appends the inputs that a leaf finds and loses as members.
 fn push_evidence(lines: &mut JsonLines, evidence: &Evidence)
     ensures { Gains (example_members (option_map (λ input. input.items) evidence.now.found)
         (option_map loss_value evidence.now.loss)) lines.old lines.new }
@@ -69,7 +69,7 @@ fn push_evidence(lines: &mut JsonLines, evidence: &Evidence)
     push_loss(lines, &evidence.loss);
 }
 
-/// Appends the input that a leaf finds, or null if it finds none.
+/// Appends a member with the input that a leaf finds, or with null if it finds none.
 fn push_found(lines: &mut JsonLines, found: &Option<Vec<u8>>)
     ensures { Gains (maybe_bytes (codes "finds") (option_map (λ input. input.items) found.now))
         lines.old lines.new }
@@ -80,7 +80,8 @@ fn push_found(lines: &mut JsonLines, found: &Option<Vec<u8>>)
     }
 }
 
-/// Appends the input that a leaf loses, and the leaf that wins it, or null if it never loses.
+/// Appends the members with an input that a leaf loses and the leaf that wins it. Both are null if
+/// the leaf never loses.
 fn push_loss(lines: &mut JsonLines, loss: &Option<Loss>)
     ensures { Gains (loss_members (option_map loss_value loss.now)) lines.old lines.new }
 {
@@ -90,7 +91,7 @@ fn push_loss(lines: &mut JsonLines, loss: &Option<Loss>)
     }
 }
 
-/// Appends an input that a leaf loses, and the leaf that wins it.
+/// Appends the members with an input that a leaf loses, and the number of the leaf that wins it.
 fn push_lost(lines: &mut JsonLines, input: &[u8], winner: usize)
     ensures { Gains (bytes_member (codes "loses") input.now ++ number_member (codes "taker") winner)
         lines.old lines.new }
@@ -99,7 +100,7 @@ fn push_lost(lines: &mut JsonLines, input: &[u8], winner: usize)
     lines.push_number("taker", winner);
 }
 
-/// Appends the members of a leaf that never loses an input.
+/// Appends the null members of a leaf that never loses an input.
 fn push_no_loss(lines: &mut JsonLines)
     ensures { Gains (null_member (codes "loses") ++ null_member (codes "taker")) lines.old lines.new }
 {

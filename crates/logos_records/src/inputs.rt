@@ -1,4 +1,5 @@
-//! The JSON objects for inputs that together take all edges of a graph. Used by `logos_show`.
+//! Writes the JSON objects for inputs that together take all edges of a graph. Used by
+//! `logos_replies`.
 
 ghost use Rattle.std.specs.Prelude.{◌≡◌, ◌∷◌, [], IfOk, map};
 ghost use Rattle.logos_records.specs.Imports.{flat_map, AreInputRecords, Puts, PutsInputs, input_lines, object};
@@ -9,15 +10,15 @@ use logos_graph::graph::Graph;
 use logos_json::JsonLines;
 use std::alloc::{AllocError, Global};
 
-/// Lines about inputs, and the number of all inputs.
+/// Lines of JSON about inputs, and the number of all inputs, of which the lines may be the first.
 #[derive(Drop)]
 pub struct InputRecords {
     pub bytes: Vec<u8>,
     pub count: usize,
 }
 
-/// Returns one line with an object for each of the first `most` inputs that together take all edges
-/// of a graph, and the number of all these inputs.
+/// Returns a line with an object for each of the first `most` inputs of those that together take
+/// all edges of a graph, and the number of all these inputs.
 ///
 /// # Errors
 ///
@@ -36,8 +37,8 @@ pub fn input_records(
     Ok(InputRecords { bytes, count })
 }
 
-/// Appends an object for each of the first `most` inputs that together take all edges of a graph,
-/// and returns the number of all these inputs.
+/// Appends a line for each of the first `most` inputs of those that together take all edges of a
+/// graph. Returns the number of all these inputs.
 fn push_input_records(
     alloc: Global,
     lines: &mut JsonLines,
@@ -52,7 +53,7 @@ fn push_input_records(
     Ok(inputs.len())
 }
 
-/// Appends an object for each of these inputs.
+/// Appends a line with the object of each input.
 fn push_each(lines: &mut JsonLines, inputs: &[Vec<u8>])
     ensures { Puts (flat_map input_lines (map (λ input. input.items) inputs.now)) lines.old lines.new }
 {
@@ -61,7 +62,7 @@ fn push_each(lines: &mut JsonLines, inputs: &[Vec<u8>])
     }
 }
 
-/// Appends the object of an input.
+/// Appends the line with the object of an input.
 fn push_input_record(lines: &mut JsonLines, input: &[u8])
     ensures { Puts (input_lines input.now) lines.old lines.new }
 {

@@ -1,4 +1,4 @@
-//! The JSON object for an item. Used by `logos_items`.
+//! Writes the JSON object for an item. Used by `logos_items`.
 
 ghost use Rattle.std.specs.Prelude.{◌≡◌, ◌∷◌, []};
 ghost use Rattle.logos_records.specs.Views.{Gains, Puts, object, item_members, kind_members, location_members};
@@ -6,7 +6,7 @@ ghost use Rattle.logos_records.specs.Views.{Gains, Puts, object, item_members, k
 use logos_json::JsonLines;
 use logos_lines::Location;
 
-/// An item of an input, with the values of its object.
+/// An item of an input, with the facts that its object states.
 #[derive(Clone, Copy)]
 pub struct ItemRecord<'i> {
     /// The line and the column at which the item begins.
@@ -20,7 +20,7 @@ pub struct ItemRecord<'i> {
     pub bytes: &'i [u8],
 }
 
-/// Appends the object of an item.
+/// Appends the line with the object of an item.
 pub fn push_item_record(lines: &mut JsonLines, item: ItemRecord<'_>)
     ensures { Puts (object (item_members item.entry) ∷ []) lines.old lines.new }
 {
@@ -31,7 +31,7 @@ pub fn push_item_record(lines: &mut JsonLines, item: ItemRecord<'_>)
     lines.end_line();
 }
 
-/// Appends the location of an item.
+/// Appends the members with the line, the column and the offset at which an item begins.
 fn push_location_members(lines: &mut JsonLines, item: ItemRecord<'_>)
     ensures { Gains (location_members item.entry) lines.old lines.new }
 {
@@ -40,7 +40,8 @@ fn push_location_members(lines: &mut JsonLines, item: ItemRecord<'_>)
     lines.push_number("from", item.from);
 }
 
-/// Appends the leaf, the variant and the text of an item.
+/// Appends the members with the leaf, the variant and the text of an item. An error has null for
+/// the first two.
 fn push_kind_members(lines: &mut JsonLines, item: ItemRecord<'_>)
     ensures { Gains (kind_members item.entry) lines.old lines.new }
 {

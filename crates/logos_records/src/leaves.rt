@@ -1,4 +1,4 @@
-//! The JSON objects for leaves, and for the cost of a lexer. Used by `logos_show`.
+//! Writes the JSON objects for leaves, and for the cost of a lexer. Used by `logos_replies`.
 
 ghost use Rattle.std.specs.Prelude.{◌≡◌, ◌∷◌, []};
 ghost use Rattle.logos_records.specs.Imports.{Gains, Puts, object, cost_members, leaf_members, leaf_objects, name_members, shape_members};
@@ -6,7 +6,8 @@ ghost use Rattle.logos_records.specs.Imports.{Gains, Puts, object, cost_members,
 use logos_inspect::{Costs, LeafRow};
 use logos_json::JsonLines;
 
-/// Appends an object for each leaf of the lexer of an enum, with the number of the leaf.
+/// Appends a line with an object for each leaf of the lexer of the enum `name`. The number of a
+/// leaf is the index of its row.
 pub fn push_leaf_records(lines: &mut JsonLines, name: &str, rows: &[LeafRow<'_>])
     ensures { Puts (leaf_objects name.now 0 rows.now) lines.old lines.new }
 {
@@ -15,7 +16,7 @@ pub fn push_leaf_records(lines: &mut JsonLines, name: &str, rows: &[LeafRow<'_>]
     }
 }
 
-/// Appends the object of a leaf.
+/// Appends the line with the object of the leaf with the number `number`.
 fn push_leaf_record(lines: &mut JsonLines, name: &str, number: usize, row: LeafRow<'_>)
     ensures { Puts (object (leaf_members name.now number row.entry) ∷ []) lines.old lines.new }
 {
@@ -26,7 +27,8 @@ fn push_leaf_record(lines: &mut JsonLines, name: &str, number: usize, row: LeafR
     lines.end_line();
 }
 
-/// Appends the names of an enum and of a variant, and the number of a leaf.
+/// Appends the members with the enum, the number, the variant and the kind of a leaf. The variant
+/// of a skip is null.
 fn push_name_members(lines: &mut JsonLines, name: &str, number: usize, row: LeafRow<'_>)
     ensures { Gains (name_members name.now number row.entry) lines.old lines.new }
 {
@@ -36,7 +38,7 @@ fn push_name_members(lines: &mut JsonLines, name: &str, number: usize, row: Leaf
     lines.push_text("kind", if row.is_token { "token" } else { "regex" });
 }
 
-/// Appends the members of a leaf other than its names.
+/// Appends the members with the pattern, the priority, the callback and the line of a leaf.
 fn push_shape_members(lines: &mut JsonLines, row: LeafRow<'_>)
     ensures { Gains (shape_members row.entry) lines.old lines.new }
 {
@@ -47,7 +49,7 @@ fn push_shape_members(lines: &mut JsonLines, row: LeafRow<'_>)
     lines.push_number("line", row.line);
 }
 
-/// Appends the object for the cost of the lexer of an enum.
+/// Appends the line with the object for the cost of the lexer of the enum `name`.
 pub fn push_cost_record(lines: &mut JsonLines, name: &str, costs: Costs)
     ensures { Puts (object (cost_members name.now costs) ∷ []) lines.old lines.new }
 {

@@ -1,5 +1,5 @@
-//! The JSON objects for the matches from an offset of an input. Used by `examples` and
-//! `logos_show`.
+//! Writes the JSON objects for the matches that start at an offset of an input. Used by `examples`
+//! and `logos_replies`.
 
 ghost use Rattle.std.specs.Prelude.{◌≡◌, ◌≤◌, IfOk, OnOk, Some, length};
 ghost use Rattle.logos_records.specs.Imports.{flat_map, AllStart, AreMatchRecords, Gains, IsBytes, IsGraphOf, Puts, PutsMatches, rules_of, end_members, match_lines, named_leaf};
@@ -11,8 +11,8 @@ use logos_json::JsonLines;
 use logos_pattern::leaf::Leaf;
 use std::alloc::{AllocError, Global};
 
-/// An offset of an input, with the leaves that may match from it, and the leaf whose match a lexer
-/// takes.
+/// An offset of an input, with the leaves of a lexer, and the number of the leaf whose match the
+/// lexer takes at the offset.
 #[derive(Clone, Copy)]
 struct StartRecord<'a, 's> {
     leaves: &'a [Leaf<'s>],
@@ -21,8 +21,8 @@ struct StartRecord<'a, 's> {
     winner: usize,
 }
 
-/// Returns the lines about the matches from a byte offset of an input: an object for each leaf that
-/// matches from there, with its longest match, and whether a lexer takes that match.
+/// Returns a line with an object for each leaf that matches from the byte offset `from` of `input`:
+/// its longest match from there, and whether a lexer takes this match.
 ///
 /// # Errors
 ///
@@ -44,8 +44,8 @@ pub fn match_records(
     Ok(bytes)
 }
 
-/// Appends an object for each leaf that matches from an offset of an input, with its longest match
-/// from there, and whether a lexer takes that match.
+/// Appends a line with an object for each leaf that matches from the byte offset `from` of `input`:
+/// its longest match from there, and whether a lexer takes this match.
 fn push_match_records(
     alloc: Global,
     lines: &mut JsonLines,
@@ -73,7 +73,7 @@ fn push_match_records(
     Ok(())
 }
 
-/// Appends the objects of the leaves that match.
+/// Appends a line for each leaf that has a match in `longest`.
 fn push_each(lines: &mut JsonLines, start: StartRecord<'_, '_>, longest: &[Option<Match>])
     ensures { Puts (flat_map (match_lines start.entry.leaves.now start.entry.input.now
         start.entry.from start.entry.winner) longest.now) lines.old lines.new }
@@ -83,7 +83,7 @@ fn push_each(lines: &mut JsonLines, start: StartRecord<'_, '_>, longest: &[Optio
     }
 }
 
-/// Appends the object of a leaf, if it matches.
+/// Appends the line of a match, or nothing for `None`.
 fn push_found(lines: &mut JsonLines, start: StartRecord<'_, '_>, found: Option<Match>)
     ensures { Puts (match_lines start.entry.leaves.now start.entry.input.now start.entry.from
         start.entry.winner found) lines.old lines.new }
@@ -94,7 +94,7 @@ fn push_found(lines: &mut JsonLines, start: StartRecord<'_, '_>, found: Option<M
     }
 }
 
-/// Appends the object of a match.
+/// Appends the line with the object of a match.
 fn push_match(lines: &mut JsonLines, start: StartRecord<'_, '_>, found: Match)
     ensures { Puts (match_lines start.entry.leaves.now start.entry.input.now start.entry.from
         start.entry.winner (Some found)) lines.old lines.new }
@@ -107,7 +107,7 @@ fn push_match(lines: &mut JsonLines, start: StartRecord<'_, '_>, found: Match)
     lines.end_line();
 }
 
-/// Appends the number of a leaf, and its variant.
+/// Appends the members with the number of a leaf and its variant. The variant of a skip is null.
 pub(crate) fn push_leaf_members(lines: &mut JsonLines, leaves: &[Leaf<'_>], leaf: usize)
     ensures { Gains (named_leaf leaves.now leaf) lines.old lines.new }
 {
@@ -115,7 +115,7 @@ pub(crate) fn push_leaf_members(lines: &mut JsonLines, leaves: &[Leaf<'_>], leaf
     lines.push_maybe_text("variant", variant_at(leaves, leaf));
 }
 
-/// Appends the span of a match, its text, and whether a lexer takes it.
+/// Appends the members with the span of a match, its text, and whether a lexer takes it.
 fn push_end(lines: &mut JsonLines, start: StartRecord<'_, '_>, found: Match)
     ensures { Gains (end_members start.entry.input.now start.entry.from start.entry.winner found)
         lines.old lines.new }

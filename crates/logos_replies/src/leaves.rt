@@ -1,4 +1,5 @@
-//! The leaves of a lexer and its cost, or examples of its leaves. Used by `page_files` and `pages`.
+//! Prints the leaves of a lexer and its cost, or examples of its leaves. Used by the modules
+//! `page_files` and `pages` of `logos_show`.
 
 use logos_answers::{push_costs, push_examples, push_rows};
 use logos_codegen::Generated;
@@ -21,7 +22,8 @@ pub enum Form {
     ExampleRecords,
 }
 
-/// An enum of a file: its offset there, the lines of the file, and its own text.
+/// An enum of a file: the part of the file that begins at it, the lines of the file, and its own
+/// text.
 #[derive(Clone, Copy)]
 pub struct EnumInFile<'f, 's> {
     pub part: Part<'f, 's>,
@@ -29,8 +31,8 @@ pub struct EnumInFile<'f, 's> {
     pub text: &'s str,
 }
 
-/// Appends the leaves of the lexer of an enum and its cost, or examples of its leaves: to a page as
-/// text, or to lines of JSON.
+/// Appends the leaves of the lexer `made` of an enum and its cost, or examples of its leaves: as
+/// text to `page`, or as JSON to `lines`.
 ///
 /// # Errors
 ///
@@ -58,7 +60,7 @@ pub fn push_form(
     }
 }
 
-/// Appends the leaves of the lexer of an enum, and the cost of the lexer.
+/// Appends the title of a lexer, the rows of its leaves, and its cost.
 fn push_table(
     alloc: Global,
     page: &mut Page,
@@ -72,7 +74,7 @@ fn push_table(
     Ok(())
 }
 
-/// Appends the examples of the leaves of a lexer.
+/// Appends the title of a lexer, the examples of its leaves, and an empty line.
 fn push_example_lines(
     alloc: Global,
     page: &mut Page,
@@ -85,7 +87,7 @@ fn push_example_lines(
     Ok(())
 }
 
-/// Appends the leaves of the lexer of an enum and its cost, as lines of JSON.
+/// Appends the leaves of the lexer `made` of an enum and its cost, as lines of JSON.
 fn push_leaves(
     alloc: Global,
     lines: &mut JsonLines,
@@ -98,7 +100,7 @@ fn push_leaves(
     Ok(())
 }
 
-/// Returns the rows of the leaves of an enum.
+/// Returns the rows of the leaves of the lexer `made` of an enum, in the order of the leaves.
 ///
 /// # Errors
 ///
@@ -115,7 +117,8 @@ pub fn rows_of<'l>(
     Ok(rows)
 }
 
-/// Appends the name of the enum and its location.
+/// Appends the name of an enum, the path of its file, the line of its name there, and an empty
+/// line.
 fn push_title(page: &mut Page, part: Part<'_, '_>, made: &Generated<'_>) {
     page.push("enum ");
     page.push(made.name.text);

@@ -1,4 +1,5 @@
-//! Answers to questions about lexers. Used by the modules `inputs`, `matches` and `program` of
+//! Writes the matches at a point of an input, the inputs that take all edges, and the outcome of a
+//! comparison with a stored answer. Used by the modules `inputs`, `matches` and `program` of
 //! `logos_show`.
 
 ghost use Rattle.std.specs.Prelude.{◌≡◌, IfErr, IfOk, OnOk};
@@ -15,7 +16,7 @@ use logos_records::{input_records, match_records};
 use std::alloc::{AllocError, Global};
 use std::io::Write;
 
-/// The outcome of a comparison.
+/// The outcome of a comparison of two lexers, or of an answer with a stored one.
 #[derive(Clone, Copy)]
 pub enum Agreement {
     Same,
@@ -30,13 +31,14 @@ pub struct InputPoint<'w, 'i> {
     pub location: Location,
 }
 
-/// Writes the matches from a point of an input, as lines of text. Before them is the match or the
-/// error around the point, if there is one; after them are the partial matches, if no leaf matches.
+/// Writes the matches that start at a point of an input, as lines of text. Before the matches is
+/// the match or the error around the point, if there is one. If no leaf matches, the partial
+/// matches are written.
 ///
 /// # Errors
 ///
-/// Returns `Refused` if the input does not have the point, `Output` if writing fails, and `Memory`
-/// if memory runs out.
+/// Returns `Refused` if the input does not have the point, `Output` or `Closed` if writing fails,
+/// and `Memory` if memory runs out.
 pub fn write_matches<O: Write>(
     alloc: Global,
     graph: &Graph<'_>,
@@ -62,12 +64,12 @@ pub fn write_matches<O: Write>(
     print_bytes(text.as_str().as_bytes(), out)
 }
 
-/// Writes the matches from a point of an input, as lines of JSON.
+/// Writes the matches that start at a point of an input, as lines of JSON.
 ///
 /// # Errors
 ///
-/// Returns `Refused` if the input does not have the point, `Output` if writing fails, and `Memory`
-/// if memory runs out.
+/// Returns `Refused` if the input does not have the point, `Output` or `Closed` if writing fails,
+/// and `Memory` if memory runs out.
 pub fn write_match_records<O: Write>(
     alloc: Global,
     graph: &Graph<'_>,
@@ -87,7 +89,7 @@ pub fn write_match_records<O: Write>(
     print_bytes(&bytes, out)
 }
 
-/// Appends the line with the location of a point.
+/// Appends the line with the location at which matches start.
 fn push_location(page: &mut Page, location: Location)
     ensures { Gains (location_line location) page.old page.new }
 {
@@ -98,7 +100,7 @@ fn push_location(page: &mut Page, location: Location)
     page.push("\n");
 }
 
-/// Returns the refusal of an input that does not have a point.
+/// Returns the refusal of an input at `path` that does not have `location`.
 fn no_location(alloc: Global, path: &str, location: Location) -> Failure<'static>
     ensures { IsNoMisuse result }
 {
@@ -113,12 +115,13 @@ fn no_location(alloc: Global, path: &str, location: Location) -> Failure<'static
     refusal_of(page.finish())
 }
 
-/// Writes at most `most` inputs that together take all edges of a graph, as Rust literals. Returns
-/// a note with the number of those that were left out, which is empty if none was.
+/// Writes the first `most` of the inputs that together take all edges of a graph, as Rust literals.
+/// Returns a note with the number of written inputs and that of all, which is empty if all were
+/// written.
 ///
 /// # Errors
 ///
-/// Returns `Output` if writing fails, and `Memory` if memory runs out.
+/// Returns `Output` or `Closed` if writing fails, and `Memory` if memory runs out.
 pub fn write_inputs<O: Write>(
     alloc: Global,
     graph: &Graph<'_>,
@@ -138,12 +141,13 @@ pub fn write_inputs<O: Write>(
     Ok(note)
 }
 
-/// Writes at most `most` inputs that together take all edges of a graph, as lines of JSON. Returns
-/// a note with the number of those that were left out, which is empty if none was.
+/// Writes the first `most` of the inputs that together take all edges of a graph, as lines of JSON.
+/// Returns a note with the number of written inputs and that of all, which is empty if all were
+/// written.
 ///
 /// # Errors
 ///
-/// Returns `Output` if writing fails, and `Memory` if memory runs out.
+/// Returns `Output` or `Closed` if writing fails, and `Memory` if memory runs out.
 pub fn write_input_records<O: Write>(
     alloc: Global,
     graph: &Graph<'_>,
@@ -160,8 +164,8 @@ pub fn write_input_records<O: Write>(
     Ok(note)
 }
 
-/// Returns the note with the number of the `count` inputs that were left out, which is empty if
-/// none was.
+/// Returns the note that `most` of `count` inputs were written, which is empty if `count` is not
+/// greater.
 fn note_of_cut(alloc: Global, most: usize, count: usize) -> Result<String, AllocError> {
     let mut page = Page::new(alloc, false);
     if most < count {
@@ -174,12 +178,12 @@ fn note_of_cut(alloc: Global, most: usize, count: usize) -> Result<String, Alloc
     page.finish()
 }
 
-/// Writes the outcome of comparing an answer with the one that is stored at a path, and returns it.
+/// Writes whether the answer `made` equals the bytes `stored` at a path, and returns the outcome.
 /// If they differ, writes the first difference.
 ///
 /// # Errors
 ///
-/// Returns `Output` if writing fails, and `Memory` if memory runs out.
+/// Returns `Output` or `Closed` if writing fails, and `Memory` if memory runs out.
 pub fn write_agreement<O: Write>(
     alloc: Global,
     path: &str,
@@ -201,7 +205,7 @@ pub fn write_agreement<O: Write>(
     Ok(Agreement::Different)
 }
 
-/// Returns a refusal with a text, or `Memory` if memory ran out for the text.
+/// Returns the refusal with `text`, or `Memory` if `text` is an error.
 pub fn refusal_of<E: Drop>(text: Result<String, E>) -> Failure<'static>
     ensures { IsNoMisuse result }
 {

@@ -1,4 +1,4 @@
-//! The verdict on two lexers. Used by the module `comparison` of `logos_show`.
+//! Prints the verdict on two lexers. Used by the module `comparison` of `logos_show`.
 
 ghost use Rattle.std.specs.Prelude.{◌≡◌, ◌∷◌, [], IfErr, IfOk, OnOk, string_bytes};
 ghost use Rattle.logos_replies.specs.Views.{Finding, IsGraphOf, IsNoMisuse, IsVerdictRecord, IsVerdictText, PrintsVerdict, Puts, PutsVerdict, ShowsVerdict, ShowsVerdictText, agreement_of, difference_object, status_of};
@@ -21,20 +21,21 @@ pub struct Pair<'m, 's, 't> {
     pub is_json: bool,
 }
 
-/// The result of comparing two lexers.
+/// The result of comparing two lexers, with a note for standard error.
 #[derive(Drop)]
 pub struct Judgment {
     pub agreement: Agreement,
-    /// A note about callbacks, which may be empty.
+    /// The note about callbacks that are written differently, or an empty text if there are none.
     pub note: String,
 }
 
-/// Writes the verdict on two lexers, and returns it. If they differ, writes a shortest input at
-/// whose beginning their findings differ, and both findings.
+/// Writes the verdict on two lexers, and returns it with the note about their callbacks. If the
+/// lexers differ on an input, writes a shortest input at whose beginning they find a different
+/// match or error, and the match or error of each lexer.
 ///
 /// # Errors
 ///
-/// Returns `Output` if writing fails, and `Memory` if memory runs out.
+/// Returns `Output` or `Closed` if writing fails, and `Memory` if memory runs out.
 pub fn compare_with<O: Write>(
     alloc: Global,
     pair: Pair<'_, '_, '_>,
@@ -62,7 +63,7 @@ pub fn compare_with<O: Write>(
     })
 }
 
-/// Returns whether two lexers are equivalent, given the result of their comparison.
+/// Returns `Same` if two lexers with this comparison are equivalent, otherwise `Different`.
 fn agreement_of(compared: &Compared) -> Agreement
     ensures { result ≡ agreement_of compared.now }
 {
@@ -73,7 +74,8 @@ fn agreement_of(compared: &Compared) -> Agreement
     }
 }
 
-/// Returns the note about callbacks that are written differently.
+/// Returns the note about callbacks of two lexers that are written differently, which is empty if
+/// there are none.
 fn callback_note<'l>(
     alloc: Global,
     one: NamedLexer<'l, '_>,
@@ -84,7 +86,8 @@ fn callback_note<'l>(
     page.finish()
 }
 
-/// Returns the output about a comparison of two lexers.
+/// Returns the output about a comparison of two lexers, as JSON if it is requested and otherwise as
+/// text.
 fn comparison_bytes(
     alloc: Global,
     pair: Pair<'_, '_, '_>,
@@ -103,7 +106,7 @@ fn comparison_bytes(
     }
 }
 
-/// Returns the lines about a comparison of two lexers.
+/// Returns the lines of text about a comparison of two lexers.
 fn compared_page(
     alloc: Global,
     pair: Pair<'_, '_, '_>,
@@ -118,7 +121,7 @@ fn compared_page(
     page.finish()
 }
 
-/// Appends the lines about a comparison of two lexers.
+/// Appends the lines of text about a comparison of two lexers.
 fn push_compared(
     alloc: Global,
     page: &mut Page,
@@ -138,7 +141,7 @@ fn push_compared(
     Ok(())
 }
 
-/// Returns the object of a comparison of two lexers.
+/// Returns the line of JSON about a comparison of two lexers.
 fn compared_record(
     alloc: Global,
     pair: Pair<'_, '_, '_>,
@@ -152,7 +155,7 @@ fn compared_record(
     lines.finish()
 }
 
-/// Appends the object of a comparison of two lexers.
+/// Appends the JSON object about a comparison of two lexers.
 fn push_compared_record(
     alloc: Global,
     lines: &mut JsonLines,
@@ -176,7 +179,8 @@ fn push_compared_record(
     Ok(())
 }
 
-/// Appends the object of an input on which two lexers differ.
+/// Appends the JSON object with an input on which two lexers differ, and with the match or error
+/// that each lexer finds at its beginning.
 fn push_findings(
     alloc: Global,
     lines: &mut JsonLines,

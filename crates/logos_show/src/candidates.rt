@@ -1,4 +1,4 @@
-//! Selects an enum of a file by its name. Used by `choice`.
+//! Selects an enum of a file by its name, among those that derive `Logos`. Used by `choice`.
 
 ghost use Rattle.std.specs.Prelude.{◌≢◌, ◌↔◌, All, Contains, IfOk, IsTrue, MatchOption, OnOk};
 ghost use Rattle.logos_show.specs.Views.{AddsCandidate, AreCandidates, EndsWith, EndsWithPath, HasName, HasPath, IsOther, IsSelected, Selects};
@@ -16,8 +16,13 @@ struct Candidate {
     path: String,
 }
 
-/// Returns the selection of a name among the enums of a file with this text: the enum with this
-/// path, or otherwise the enums whose path ends with it.
+/// Selects among the enums of `found` that derive `Logos`, by their paths in the file `text`: the
+/// first one whose path is `name`, or otherwise the first one whose path ends with `name`. If
+/// another path ends with `name`, returns `Several`. Returns `Nothing` if no path ends with `name`.
+///
+/// # Errors
+///
+/// Returns `Memory` if memory runs out.
 pub(crate) fn named_enum(
     alloc: Global,
     text: &str,
@@ -30,7 +35,7 @@ pub(crate) fn named_enum(
     Ok(selected(&candidates, name))
 }
 
-/// Returns the enums that derive `Logos`, with their paths.
+/// Returns the enums of `found` that derive `Logos`, with their paths in the file `text`.
 fn candidates_of(alloc: Global, text: &str, found: &[FoundEnum]) -> Result<Vec<Candidate>, Memory>
     ensures { IfOk result (λ candidates. AreCandidates text.now found.now candidates.items) }
 {
@@ -41,7 +46,7 @@ fn candidates_of(alloc: Global, text: &str, found: &[FoundEnum]) -> Result<Vec<C
     Ok(candidates)
 }
 
-/// Adds an enum with its path, if it derives `Logos`.
+/// Adds `found` with its path in the file `text` to `candidates`, if it derives `Logos`.
 fn add_candidate(
     alloc: Global,
     text: &str,
@@ -59,8 +64,9 @@ fn add_candidate(
     Ok(())
 }
 
-/// Returns the selection of a name among candidates: the one whose path is the name, or otherwise
-/// those whose path ends with the name.
+/// Selects among candidates: the first one whose path is `name`, or otherwise the first one whose
+/// path ends with `name`. If another path ends with `name`, returns `Several`. Returns `Nothing` if
+/// no path ends with `name`.
 fn selected(candidates: &[Candidate], name: &str) -> Chosen
     ensures { IsSelected candidates.now name.now result }
 {
@@ -76,7 +82,7 @@ fn selected(candidates: &[Candidate], name: &str) -> Chosen
     }
 }
 
-/// Returns the first candidate whose path is the name, if there is one.
+/// Returns the first candidate whose path is `name`, or `None` if there is none.
 fn with_path<'c>(candidates: &'c [Candidate], name: &str) -> Option<&'c Candidate>
     ensures { MatchOption result (All (λ candidate. ¬ HasPath name.now candidate) candidates.now)
         (λ found. Contains candidates.now found.now × HasPath name.now found.now) }
@@ -89,7 +95,7 @@ fn with_path<'c>(candidates: &'c [Candidate], name: &str) -> Option<&'c Candidat
     None
 }
 
-/// Returns the first candidate whose path ends with the name, if there is one.
+/// Returns the first candidate whose path ends with `name`, or `None` if there is none.
 fn with_end<'c>(candidates: &'c [Candidate], name: &str) -> Option<&'c Candidate>
     ensures { MatchOption result (All (λ candidate. ¬ EndsWith name.now candidate) candidates.now)
         (λ found. Contains candidates.now found.now × EndsWith name.now found.now) }
@@ -102,8 +108,8 @@ fn with_end<'c>(candidates: &'c [Candidate], name: &str) -> Option<&'c Candidate
     None
 }
 
-/// Returns the first candidate whose path ends with the name and differs from `path`, if there is
-/// one.
+/// Returns the first candidate whose path ends with `name` and differs from `path`, or `None` if
+/// there is none.
 fn other_with_end<'c>(candidates: &'c [Candidate], name: &str, path: &str) -> Option<&'c Candidate>
     ensures { MatchOption result
         (All (λ candidate. ¬ IsOther name.now path.now candidate) candidates.now)
@@ -117,14 +123,15 @@ fn other_with_end<'c>(candidates: &'c [Candidate], name: &str, path: &str) -> Op
     None
 }
 
-/// Returns whether a path ends with a name and differs from another path.
+/// Returns whether `path` ends with `name` and differs from `other`.
 fn is_other(path: &str, name: &str, other: &str) -> bool
     ensures { IsTrue result ↔ ((EndsWithPath path.now name.now) × (path.now ≢ other.now)) }
 {
     ends_with_path(path, name) & (path != other)
 }
 
-/// Returns whether an enum with a path has the name: whether the path is the name or ends with it.
+/// Returns whether `name` selects an enum with the path `path`: whether the path is `name` or ends
+/// with it.
 pub(crate) fn is_named(path: &str, name: &str) -> bool
     ensures { IsTrue result ↔ HasName name.now path.now }
 {

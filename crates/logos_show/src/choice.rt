@@ -1,4 +1,4 @@
-//! Selects the enum of a file by its name. Used by the modules that need a lexer.
+//! Selects the enum of a file whose lexer is requested. Used by the modules that need a lexer.
 
 ghost use Rattle.std.specs.Prelude.{◌≡◌, ◌↔◌, ℕ, List, IfErr, IfOk, IfSome, IsTrue, None, Some, option_map, string_bytes};
 ghost use Rattle.logos_show.specs.Views.{Fault, Gains, HasName, IsCause, IsChosen, IsChosenIn, IsLexerOf, IsNextChoice, IsNoMisuse, IsPathOf, IsSeveralText, IsUnreadable, Refuses, RefusesBy, chosen_first, first_deriving, help_text, name_requested, name_text, no_lexer_text, other_text, several_text};
@@ -17,26 +17,35 @@ use logos_rust_file::{FoundEnum, enums_in, path_of};
 use std::alloc::{AllocError, Global};
 use std::io::Write;
 
-/// Two enums of a file that derive `Logos`.
+/// The first two enums of a file that derive `Logos` and have different paths, as far as the file
+/// was searched.
 #[derive(Clone, Copy)]
 struct Choice {
-    /// The first of the enums.
+    /// The first enum that derives `Logos`, or `None` if none was found.
     first: Option<FoundEnum>,
-    /// The first enum after `first` that has another path.
+    /// The first enum after `first` that derives `Logos` and has another path, or `None` if none
+    /// was found.
     second: Option<FoundEnum>,
 }
 
-/// The selection of an enum by its name, or of the first enum if no name is given.
+/// The enums that a name selects, or those that derive `Logos` if no name is given.
 #[derive(Clone, Copy)]
 pub(crate) enum Chosen {
     Nothing,
     One(FoundEnum),
-    /// Several enums, of which these two have different paths.
+    /// Several enums, represented by the first one and the first of the others that has another
+    /// path.
     Several(FoundEnum, FoundEnum),
 }
 
-/// Returns the requested enum of a file, which is the first one if no name is given. If no name is
-/// given and there are several enums, writes a note to standard error.
+/// Returns the requested enum of a file, which is the first one that derives `Logos` if no name is
+/// given. If no name is given and enums with different paths derive `Logos`, writes a note to
+/// standard error.
+///
+/// # Errors
+///
+/// Returns `Refused` if the file cannot be read into tokens, has no requested enum, or has several
+/// enums with the requested name. Returns `Memory` if memory runs out.
 pub(crate) fn lexer_in<'w, E: Write>(
     alloc: Global,
     task: Task<'w>,
@@ -60,8 +69,8 @@ pub(crate) fn lexer_in<'w, E: Write>(
     }
 }
 
-/// Returns the first of several enums and writes a note to standard error, if no name is given.
-/// With a name, refuses the file.
+/// Returns the first of two enums and writes a note to standard error, if no name is given. With a
+/// name, refuses the file.
 fn one_of<'w, E: Write>(
     task: Task<'w>,
     source: &Source<'_>,
@@ -84,7 +93,8 @@ fn one_of<'w, E: Write>(
     Ok(enums.0)
 }
 
-/// Returns the note that the first of several enums was selected.
+/// Returns the note that the first of two enums was selected, with the help how to select the
+/// second.
 fn first_text(
     alloc: Global,
     source: &Source<'_>,
@@ -103,8 +113,12 @@ fn first_text(
     Ok(page.finish()?)
 }
 
-/// Returns the selection of the requested enum of a file. It is never `Nothing`: without such an
-/// enum the file is refused.
+/// Returns the enums of a file that are requested, which is never `Nothing`.
+///
+/// # Errors
+///
+/// Returns `Refused` if the file cannot be read into tokens or has no requested enum, and `Memory`
+/// if memory runs out.
 pub(crate) fn found_in<'w>(
     alloc: Global,
     task: Task<'w>,
@@ -135,7 +149,8 @@ pub(crate) fn found_in<'w>(
     }
 }
 
-/// Returns the refusal of a file that cannot be read into tokens.
+/// Returns the refusal of a file that cannot be read into tokens, with its faults, or `Memory` if
+/// memory ran out.
 fn unread(
     alloc: Global,
     showing: Showing,
@@ -154,7 +169,8 @@ fn unread(
     refused(alloc, whole, showing, Refusal::Errors(errors))
 }
 
-/// Returns the refusal of a file without the requested lexer.
+/// Returns the refusal of a file in which no enum derives `Logos`, or none with the requested name.
+/// Returns `Memory` if memory runs out.
 fn no_lexer(alloc: Global, file: &str, name: Option<&str>) -> Failure<'static>
     ensures failed { IsNoMisuse result }
     ensures refused { RefusesBy (λ shown.
@@ -166,7 +182,7 @@ fn no_lexer(alloc: Global, file: &str, name: Option<&str>) -> Failure<'static>
     }
 }
 
-/// Returns the message about a file without the requested lexer.
+/// Returns the message that no enum in `file` derives `Logos`, or none with the name `name`.
 fn no_lexer_text(alloc: Global, file: &str, name: Option<&str>) -> Result<String, AllocError>
     ensures { IfOk result (λ text. string_bytes text
         ≡ no_lexer_text file.now (option_map (λ name. name.now) name.entry)) }
@@ -180,7 +196,8 @@ fn no_lexer_text(alloc: Global, file: &str, name: Option<&str>) -> Result<String
     page.finish()
 }
 
-/// Returns the refusal of a name that two enums in different modules have.
+/// Returns the refusal of a name that selects several enums, of which `enums` have different paths.
+/// Returns `Memory` if memory runs out.
 fn several(
     alloc: Global,
     source: &Source<'_>,
@@ -196,7 +213,7 @@ fn several(
     }
 }
 
-/// Returns the message about a name that two enums have.
+/// Returns the message that several enums have the name `name`, with the paths of `enums`.
 fn several_text(
     alloc: Global,
     source: &Source<'_>,
@@ -216,7 +233,7 @@ fn several_text(
     Ok(page.finish()?)
 }
 
-/// Appends the beginning of the message that several enums of a file have a name.
+/// Appends the beginning of the message that several enums of `file` have the name `name`.
 fn push_several(page: &mut Page, file: &str, name: &str)
     ensures { Gains (several_text file.now name.now) page.old page.new }
 {
@@ -227,7 +244,7 @@ fn push_several(page: &mut Page, file: &str, name: &str)
     page.push(" derive `Logos`: ");
 }
 
-/// Appends the path of another enum.
+/// Appends the path of the second enum to the message about several enums, and the end of the line.
 fn push_other(page: &mut Page, path: &str)
     ensures { Gains (other_text path.now) page.old page.new }
 {
@@ -236,7 +253,7 @@ fn push_other(page: &mut Page, path: &str)
     page.push("`\n");
 }
 
-/// Appends the help for a name that several enums have.
+/// Appends the help to select the enum with the path `path`, for a name that several enums have.
 fn push_help(page: &mut Page, path: &str)
     ensures { Gains (help_text path.now) page.old page.new }
 {
@@ -245,7 +262,7 @@ fn push_help(page: &mut Page, path: &str)
     page.push("`\n");
 }
 
-/// Appends the name of an enum, if one is given.
+/// Appends the name of an enum in backticks and a space, or nothing for `None`.
 fn push_name(page: &mut Page, name: Option<&str>)
     ensures { Gains (name_text (option_map (λ name. name.now) name.entry)) page.old page.new }
 {
@@ -256,9 +273,9 @@ fn push_name(page: &mut Page, name: Option<&str>)
     }
 }
 
-/// Returns the selection among the enums that derive `Logos`. A name selects the one with this
-/// path, or otherwise those whose path ends with it. Without a name, the first one is selected, and
-/// another one if there is one.
+/// Returns the selection among the enums of `found` that derive `Logos`. A name selects the first
+/// one with this path, or otherwise those whose path ends with the name. Without a name, all are
+/// selected.
 fn enum_meant(
     alloc: Global,
     source: &Source<'_>,
@@ -274,7 +291,8 @@ fn enum_meant(
     }
 }
 
-/// Returns the first enum that derives `Logos`, and another one with another path if there is one.
+/// Returns the first enum that derives `Logos`, with the first one of another path if there is one,
+/// or `Nothing` if none derives `Logos`.
 fn first_enum(alloc: Global, source: &Source<'_>, found: &[FoundEnum]) -> Result<Chosen, Memory>
     ensures { IfOk result (λ chosen. chosen_first chosen ≡ first_deriving found.now) }
 {
@@ -288,7 +306,8 @@ fn first_enum(alloc: Global, source: &Source<'_>, found: &[FoundEnum]) -> Result
     Ok(chosen_of(choice))
 }
 
-/// Returns the selection of the enums of a choice.
+/// Returns the enums of a choice: `Nothing` for none, `One` for the first alone, otherwise
+/// `Several`.
 fn chosen_of(choice: Choice) -> Chosen
     ensures { chosen_first result ≡ choice.first }
 {
@@ -299,7 +318,8 @@ fn chosen_of(choice: Choice) -> Chosen
     }
 }
 
-/// Returns a choice with one more enum.
+/// Returns `choice` after the enum `one`: unchanged if the enum does not derive `Logos`, if its
+/// path is that of the first one, or if there are two already.
 fn choice_with(
     alloc: Global,
     choice: Choice,
@@ -331,8 +351,12 @@ fn choice_with(
     })
 }
 
-/// Returns whether a name selects an enum: whether the path of the enum is the name or ends with
-/// it. Without a name, returns `true`.
+/// Returns whether `name` selects an enum: whether the path of the enum is `name` or ends with it.
+/// Returns `true` if `name` is `None`.
+///
+/// # Errors
+///
+/// Returns `Memory` if memory runs out.
 pub(crate) fn has_name(
     alloc: Global,
     source: &Source<'_>,

@@ -1,4 +1,4 @@
-//! Compares two lexers. Called for `--compare`.
+//! Compares the lexers of two files. Used by `program` for `--compare`.
 
 ghost use Rattle.std.specs.Prelude.{◌≡◌, [], IfErr, IfOk};
 ghost use Rattle.logos_show.specs.Views.{ComparesFiles, ComparesTo, IsGraphOf, IsNoMisuse, Reads, order_value};
@@ -16,7 +16,14 @@ use logos_rust_file::FoundEnum;
 use std::alloc::AllocError;
 use std::io::Write;
 
-/// Writes the verdict on the requested lexers of a file and of another file, and returns it.
+/// Writes the verdict on the requested lexers of a file and of the file at the path `other`, and a
+/// note to standard error. Returns whether they agree.
+///
+/// # Errors
+///
+/// Returns `Refused` if a file has no requested enum or the enum has no lexer, `Read` or `NotText`
+/// if the other file cannot be read, `Output` or `Closed` if writing fails, and `Memory` if memory
+/// runs out.
 pub(crate) fn compare<'w, F: Files, O: Write, E: Write>(
     task: Task<'w>,
     source: &Source<'_>,
@@ -42,8 +49,8 @@ pub(crate) fn compare<'w, F: Files, O: Write, E: Write>(
     compare_sources(task, source, &other_source, err, out)
 }
 
-/// Writes the verdict on the lexers of two files, and a note to standard error. Returns the
-/// verdict.
+/// Writes the verdict on the requested lexers of two files, and a note to standard error. Returns
+/// whether the lexers agree.
 fn compare_sources<'w, O: Write, E: Write>(
     task: Task<'w>,
     source: &Source<'_>,
@@ -60,7 +67,8 @@ fn compare_sources<'w, O: Write, E: Write>(
     Ok(judgment.agreement)
 }
 
-/// Writes the verdict on the lexers of two files, and returns it with a note.
+/// Writes the verdict on the requested lexers of two files. Returns whether the lexers agree, with
+/// the note about them.
 fn compare_files<'w, O: Write, E: Write>(
     task: Task<'w>,
     source: &Source<'_>,
@@ -81,7 +89,7 @@ fn compare_files<'w, O: Write, E: Write>(
     }
 }
 
-/// Returns a lexer with the path of its file and the text of its enum.
+/// Returns the lexer `made`, with the path of its file and the text of its enum `one`.
 fn named_lexer<'m, 's>(
     source: &'m Source<'_>,
     one: FoundEnum,
@@ -98,7 +106,8 @@ fn named_lexer<'m, 's>(
     }
 }
 
-/// Writes the verdict on a lexer and that of another file, and returns the verdict with a note.
+/// Writes the verdict on the lexer `one` and the requested lexer of another file. Returns whether
+/// the lexers agree, with the note about them.
 fn compare_to<'w, O: Write, E: Write>(
     task: Task<'w>,
     one: NamedLexer<'_, '_>,

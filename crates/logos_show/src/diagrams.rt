@@ -1,4 +1,4 @@
-//! The state diagram of a lexer. Called for `--mermaid`.
+//! Prints the state diagram of a lexer. Used by `program` for `--mermaid`.
 
 ghost use Rattle.std.specs.Prelude.{IfErr};
 ghost use Rattle.logos_show.specs.Imports.{IsNoMisuse};
@@ -14,7 +14,12 @@ use logos_report::Source;
 use std::alloc::Global;
 use std::io::Write;
 
-/// Writes the state diagram of the requested lexer of a file.
+/// Writes the state diagram of the requested lexer of a file to `out`.
+///
+/// # Errors
+///
+/// Returns `Refused` if the file has no requested enum or the enum has no lexer, `Output` or
+/// `Closed` if writing fails, and `Memory` if memory runs out.
 pub(crate) fn print_diagram<'w, O: Write, E: Write>(
     task: Task<'w>,
     source: &Source<'_>,
@@ -32,7 +37,7 @@ pub(crate) fn print_diagram<'w, O: Write, E: Write>(
     }
 }
 
-/// Writes the state diagram of a lexer.
+/// Writes the state diagram of the lexer `made` to `out`.
 fn print_by_lexer<O: Write>(
     alloc: Global,
     made: &Generated<'_>,

@@ -1,4 +1,5 @@
-//! Inputs that together take all edges of the graph of a lexer. Called for `--inputs`.
+//! Prints inputs that together take all edges of the graph of a lexer. Used by `program` for
+//! `--inputs`.
 
 ghost use Rattle.std.specs.Prelude.{◌≡◌, IfErr, IfOk, OnOk};
 ghost use Rattle.logos_show.specs.Views.{IsNoMisuse, PrintsInputsAs, ShowsInputsOf, order_value};
@@ -15,8 +16,13 @@ use logos_report::Source;
 use std::alloc::Global;
 use std::io::Write;
 
-/// Writes at most `most` inputs that together take all edges of the graph of the requested lexer of
-/// a file. Returns `Same`, since nothing is compared.
+/// Writes the first `most` of the inputs that together take all edges of the graph of the requested
+/// lexer of a file, and a note to standard error. Returns `Same`, since nothing is compared.
+///
+/// # Errors
+///
+/// Returns `Refused` if the file has no requested enum or the enum has no lexer, `Output` or
+/// `Closed` if writing fails, and `Memory` if memory runs out.
 pub(crate) fn yield_inputs<'w, O: Write, E: Write>(
     task: Task<'w>,
     source: &Source<'_>,
@@ -34,7 +40,8 @@ pub(crate) fn yield_inputs<'w, O: Write, E: Write>(
     Ok(Agreement::Same)
 }
 
-/// Writes inputs for the requested lexer of a file, and returns the note about them.
+/// Writes the first `most` of the inputs for the requested lexer of a file, and returns the note
+/// about them.
 fn inputs_by_file<'w, O: Write, E: Write>(
     task: Task<'w>,
     source: &Source<'_>,
@@ -55,7 +62,8 @@ fn inputs_by_file<'w, O: Write, E: Write>(
     }
 }
 
-/// Writes inputs for the lexer of a graph, as JSON or as text, and returns the note about them.
+/// Writes the first `most` of the inputs for the lexer of a graph, as JSON if `is_json` is set and
+/// otherwise as text. Returns the note about the inputs.
 fn inputs_by_graph<O: Write>(
     alloc: Global,
     graph: &Graph<'_>,

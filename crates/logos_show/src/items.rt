@@ -1,4 +1,4 @@
-//! The items of an input. Called for a second path without an option.
+//! Prints the items of an input. Used by `program` for a second path without an option.
 
 ghost use Rattle.std.specs.Prelude.{IfErr};
 ghost use Rattle.logos_show.specs.Imports.{IsNoMisuse};
@@ -15,7 +15,14 @@ use logos_report::Source;
 use std::io::Write;
 use std::time::Clock;
 
-/// Writes the items of an input, found with the requested lexer of a file.
+/// Writes the items that the requested lexer of a file finds in the input of the question, and a
+/// note to standard error.
+///
+/// # Errors
+///
+/// Returns `Read` if the input cannot be read, `NotUtf8` if the lexer reads UTF-8 and the input is
+/// not UTF-8, `Refused` if the file has no requested enum or the enum has no lexer, `Output` or
+/// `Closed` if writing fails, and `Memory` if memory runs out.
 pub(crate) fn lex<'w, F: Files, C: Clock, O: Write, E: Write>(
     task: Task<'w>,
     source: &Source<'_>,
@@ -30,7 +37,7 @@ pub(crate) fn lex<'w, F: Files, C: Clock, O: Write, E: Write>(
     lex_by_file(task, source, &bytes, clock, err, out)
 }
 
-/// Returns the path of the input of a question, or an empty path if it has none.
+/// Returns the path of the input of a question for items, or an empty path for any other question.
 fn input_of<'w>(question: Question<'w>) -> &'w str {
     match question {
         Question::Items(input) => input,
@@ -38,7 +45,8 @@ fn input_of<'w>(question: Question<'w>) -> &'w str {
     }
 }
 
-/// Writes the items of these bytes, found with the requested lexer of a file.
+/// Writes the items that the requested lexer of a file finds in `bytes`, and a note to standard
+/// error.
 fn lex_by_file<'w, C: Clock, O: Write, E: Write>(
     task: Task<'w>,
     source: &Source<'_>,
@@ -59,7 +67,8 @@ fn lex_by_file<'w, C: Clock, O: Write, E: Write>(
     print_note(lexed, err)
 }
 
-/// Writes the items of an input, and returns the note about them.
+/// Writes the items that the lexer `made` finds in `bytes`, as JSON if it is requested. Returns the
+/// note about the items.
 fn items_by_lexer<C: Clock, O: Write>(
     task: Task<'_>,
     made: &Generated<'_>,
@@ -81,7 +90,11 @@ fn items_by_lexer<C: Clock, O: Write>(
     write_items(order, made, bytes, clock, out)
 }
 
-/// Writes the note about the items of an input, if they were written.
+/// Writes the note of `lexed` to standard error, or returns its failure.
+///
+/// # Errors
+///
+/// Returns the failure of `lexed`. If writing the note fails, the failure is ignored.
 pub(crate) fn print_note<'w, E: Write>(
     lexed: Result<String, Failure<'w>>,
     err: &mut E,

@@ -1,17 +1,17 @@
-//! The code shape and the part of a requested lexer. Used by `comparison`, `inputs`, `items`,
-//! `matches`, `pages` and `stream`.
+//! Constants and parts for the requested lexer of a file. Used by `comparison`, `diagrams`,
+//! `inputs`, `items`, `matches`, `page_files`, `pages` and `stream`.
 
 use logos_codegen::generator::Config;
 use logos_report::{Part, Source};
 use logos_rust_file::FoundEnum;
 
-/// The shape of the code whose tables are counted. The number of tables does not depend on the
+/// The shape of the code of each lexer that is shown. The counted tables do not depend on the
 /// shape.
 pub(crate) const SHAPE: Config = Config {
     use_state_machine_codegen: true,
 };
 
-/// Returns the part of a file that is an enum.
+/// Returns the part of a file that begins at the enum `one`.
 pub(crate) fn part_of<'f, 's>(source: &'f Source<'s>, one: FoundEnum) -> Part<'f, 's> {
     Part {
         source,

@@ -1,4 +1,4 @@
-//! The matches from a point of an input. Called for `--at`.
+//! Prints the matches of a lexer that start at a point of an input. Used by `program` for `--at`.
 
 ghost use Rattle.std.specs.Prelude.{◌≡◌, IfErr, IfOk, OnOk};
 ghost use Rattle.logos_show.specs.Views.{AllStart, IsBytes, IsGraphOf, IsNoMisuse, PrintsMatchesAs, Reads, ShowsMatchesOf, order_value, rules_of};
@@ -15,15 +15,21 @@ use logos_report::Source;
 use std::alloc::Global;
 use std::io::Write;
 
-/// A point of the file at a path.
+/// A location in the file at a path.
 #[derive(Clone, Copy)]
 pub(crate) struct FilePoint<'w> {
     pub(crate) path: &'w str,
     pub(crate) location: Location,
 }
 
-/// Writes the matches from a point of an input, found with the requested lexer of a file. Returns
+/// Writes the matches that start at a point of an input, for the requested lexer of a file. Returns
 /// `Same`, since nothing is compared.
+///
+/// # Errors
+///
+/// Returns `Read` if the input cannot be read, `Refused` if the input does not have the point, the
+/// file has no requested enum or the enum has no lexer, `Output` or `Closed` if writing fails, and
+/// `Memory` if memory runs out.
 pub(crate) fn show_matches<'w, F: Files, O: Write, E: Write>(
     task: Task<'w>,
     source: &Source<'_>,
@@ -43,7 +49,8 @@ pub(crate) fn show_matches<'w, F: Files, O: Write, E: Write>(
     Ok(Agreement::Same)
 }
 
-/// Writes the matches from a point of an input, found with the requested lexer of a file.
+/// Writes the matches that start at the location of `point` in `bytes`, for the requested lexer of
+/// a file.
 fn matches_by_file<'w, O: Write, E: Write>(
     task: Task<'w>,
     source: &Source<'_>,
@@ -72,7 +79,8 @@ fn matches_by_file<'w, O: Write, E: Write>(
     }
 }
 
-/// Writes the matches from a point of an input, found with a lexer, as JSON or as text.
+/// Writes the matches of the lexer `made` that start at a point of an input, as JSON if `is_json`
+/// is set and otherwise as text.
 fn matches_by_lexer<O: Write>(
     alloc: Global,
     made: &Generated<'_>,

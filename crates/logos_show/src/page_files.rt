@@ -1,4 +1,4 @@
-//! The page of a lexer, written to a file or to standard output. Called for `--html`.
+//! Writes the page of a lexer to a file or to standard output. Used by `program` for `--html`.
 
 ghost use Rattle.std.specs.Prelude.{IfErr};
 ghost use Rattle.logos_show.specs.Imports.{IsNoMisuse};
@@ -16,15 +16,21 @@ use logos_report::Source;
 use logos_rust_file::FoundEnum;
 use std::io::Write;
 
-/// The argument that names the page, and the one that names its input, if one is given.
+/// The paths of a page and of the input on it. A page to `-` is written to standard output.
 #[derive(Clone, Copy)]
 pub(crate) struct PageOrder<'w> {
     pub(crate) to: &'w str,
     pub(crate) input: Option<&'w str>,
 }
 
-/// Writes the page of the requested lexer of a file. The file of the page is written whole or not
-/// at all.
+/// Writes the page of the requested lexer of a file to the path of `order`, or to `out` if the path
+/// is `-`. A file at the path is written whole or not at all.
+///
+/// # Errors
+///
+/// Returns `Read` if the input cannot be read, `NotUtf8` if the lexer reads UTF-8 and the input is
+/// not UTF-8, `Refused` if the file has no requested enum or the enum has no lexer, `Write`,
+/// `Output` or `Closed` if writing fails, and `Memory` if memory runs out.
 pub(crate) fn write_page<'w, F: Files, O: Write, E: Write>(
     task: Task<'w>,
     source: &Source<'_>,
@@ -52,7 +58,7 @@ pub(crate) fn write_page<'w, F: Files, O: Write, E: Write>(
     write_file(order.to, page.as_str().as_bytes(), files)
 }
 
-/// Returns the page of the requested lexer of a file.
+/// Returns the page of the requested lexer of a file, with the text of `input` if one is given.
 fn page_by_file<'w, E: Write>(
     task: Task<'w>,
     source: &Source<'_>,
@@ -70,7 +76,8 @@ fn page_by_file<'w, E: Write>(
     }
 }
 
-/// Returns the page of the lexer of an enum.
+/// Returns the page of the lexer `made` of the enum `one`, with the text of `input` if one is
+/// given.
 fn page_by_lexer(
     task: Task<'_>,
     source: &Source<'_>,

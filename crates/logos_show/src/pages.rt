@@ -1,4 +1,4 @@
-//! The lexers of a file, as tables. Used by `program`.
+//! Shows the lexers of a file as tables, as examples or as JSON. Used by `program`.
 
 ghost use Rattle.std.specs.Prelude.{IfErr};
 ghost use Rattle.logos_show.specs.Orders.{IsNoMisuse};
@@ -25,18 +25,18 @@ use logos_warnings::Origin;
 use std::alloc::Global;
 use std::mem;
 
-/// The output for a file.
+/// The output for a file: the tables, examples or records of its lexers, and its warnings.
 #[derive(Drop)]
 pub(crate) struct Shown {
-    /// The tables of the lexers of the file, or their examples.
+    /// The tables of the lexers of the file, or their examples. Empty if the form is JSON.
     pub(crate) tables: String,
-    /// The tables or examples as lines of JSON. Either this or `tables` is empty.
+    /// The tables or examples as lines of JSON. Empty if the form is not JSON.
     pub(crate) records: Vec<u8>,
-    /// The text of the warnings of the file.
+    /// The text of the warnings of the file, empty if there are none.
     pub(crate) warnings: Vec<u8>,
 }
 
-/// The style in which a file is shown.
+/// The form in which lexers are shown, and the settings for messages.
 #[derive(Clone, Copy)]
 pub(crate) struct PageStyle {
     /// The settings for showing faults and warnings.
@@ -44,7 +44,7 @@ pub(crate) struct PageStyle {
     pub(crate) form: Form,
 }
 
-/// The pages of the output for a file.
+/// The output for a file while its enums are read one after another.
 #[derive(Drop)]
 struct Pages {
     tables: Page,
@@ -53,7 +53,7 @@ struct Pages {
     style: PageStyle,
 }
 
-/// Returns the output for a file, or for the enums in it with a given name.
+/// Returns the output for a file, or for the enums in it that `name` selects.
 ///
 /// # Errors
 ///
@@ -79,7 +79,8 @@ pub(crate) fn shown_of(
     shown_by(source, pages, !has_lexer(&file.found))
 }
 
-/// Returns the pages of the enums of a file, or of those with a given name.
+/// Returns the output for the enums of `found`, or for those that `name` selects. `lines` is the
+/// index of the lines of the file.
 fn pages_of<'f, 's>(
     source: &'f Source<'s>,
     lines: &'f LineIndex<'s>,
@@ -102,8 +103,8 @@ fn pages_of<'f, 's>(
     Ok(pages)
 }
 
-/// Returns the output for a file with these pages. `is_missing` is whether none of its enums
-/// derives `Logos`.
+/// Returns the finished output for a file. `is_missing` is whether none of its enums derives
+/// `Logos`. If warnings are denied and there are some, refuses the file.
 fn shown_by(source: &Source<'_>, pages: Pages, is_missing: bool) -> Result<Shown, Failure<'static>>
     ensures { IfErr result IsNoMisuse }
 {
@@ -118,14 +119,14 @@ fn shown_by(source: &Source<'_>, pages: Pages, is_missing: bool) -> Result<Shown
     })
 }
 
-/// Returns the refusal of a file whose warnings are denied.
+/// Returns the refusal of a file whose warnings are denied, with these warnings.
 fn denied(source: &Source<'_>, showing: Showing, warned: &[Warning]) -> Failure<'static>
     ensures { IsNoMisuse result }
 {
     refusal_of(denial_text(source, showing, warned))
 }
 
-/// Returns an enum with its location in a file.
+/// Returns the enum `found` with its text, its file and the index of the file's lines.
 fn enum_in<'f, 's>(
     source: &'f Source<'s>,
     lines: &'f LineIndex<'s>,
@@ -141,7 +142,7 @@ fn enum_in<'f, 's>(
     }
 }
 
-/// Appends the output for an enum, if it has the given name, or none is given.
+/// Appends the output for an enum to `pages`, if `name` selects the enum or is `None`.
 fn push_named(
     pages: &mut Pages,
     one: EnumInFile<'_, '_>,
@@ -157,7 +158,8 @@ fn push_named(
     Ok(())
 }
 
-/// Appends the output for an enum, given whether it derives `Logos`.
+/// Appends the output for an enum to `pages`: its lexer if `derives` is set, otherwise the warnings
+/// about its text.
 fn push_enum(
     alloc: Global,
     pages: &mut Pages,
@@ -173,7 +175,8 @@ fn push_enum(
     Ok(())
 }
 
-/// Appends the output for an enum that derives `Logos`.
+/// Appends the output for an enum that derives `Logos` to `pages`. If the enum has no lexer,
+/// returns its refusal.
 fn push_lexer(
     alloc: Global,
     pages: &mut Pages,
@@ -190,7 +193,8 @@ fn push_lexer(
     }
 }
 
-/// Returns the explanation of a refused enum, with the warnings so far and all of its own.
+/// Returns the explanation of a refused enum, with the warnings of `pages` before its own. No
+/// warnings remain in `pages`.
 fn known_after(
     alloc: Global,
     pages: &mut Pages,
@@ -205,7 +209,8 @@ fn known_after(
     })
 }
 
-/// Appends the leaves of a lexer or its examples, and the warnings of its enum and of its leaves.
+/// Appends the leaves of a lexer or its examples to `pages`, and the warnings of its enum and of
+/// its leaves.
 fn push_made(
     alloc: Global,
     pages: &mut Pages,
@@ -231,7 +236,8 @@ fn push_made(
     Ok(())
 }
 
-/// Returns the tokens of an enum that has a lexer. Such an enum can always be read into tokens.
+/// Returns the tokens of the text of an enum that has a lexer. Such a text can always be read into
+/// tokens, so each error is `Memory`.
 fn tokens_of<'s>(alloc: Global, text: &'s str) -> Result<TokenStream<'s>, Memory> {
     match tokenize(alloc, text) {
         Ok(stream) => Ok(stream),

@@ -1,4 +1,4 @@
-//! The program, from its arguments to its exit status. `run_logos_show` calls it.
+//! Runs the program, from its arguments to its exit status. Used by `run_logos_show`.
 
 ghost use Rattle.std.specs.Prelude.{◌≡◌, ◌≤◌, ◌↔◌, ◌⊎◌, None, IfErr, IfOk, IfSome, map, string_bytes};
 ghost use Rattle.logos_show.specs.Views.{Answers, AnswersAbout, AnswersOrExpects, Expects, IsFulfilled, IsNoMisuse, expected_in, is_json, order_value, question_value, request_value, requested, status_of};
@@ -61,7 +61,7 @@ options:
 const VERSION: &str = "logos_show 0.1.0 (for logos 0.16)\n";
 
 /// Runs the program with its arguments, and returns the exit status of `run`. If the arguments
-/// cannot be read, the status is that of the failure.
+/// cannot be read, writes a message and returns the exit status of the failure.
 pub(crate) fn run_with<
     F: ComparableFiles,
     C: Clock + StandardInput + Env,
@@ -118,7 +118,7 @@ pub(crate) fn run<
     }
 }
 
-/// Writes the message of a failure, and returns the exit status.
+/// Writes the message of a failure to standard error, and returns its exit status.
 fn failed<E: Write>(failure: &Failure<'_>, err: &mut E) -> u8
     ensures { result ≡ status_of failure.now }
 {
@@ -126,17 +126,18 @@ fn failed<E: Write>(failure: &Failure<'_>, err: &mut E) -> u8
     failure.status()
 }
 
-/// An order that is being carried out.
+/// An order that is carried out, with the settings for messages and for the screen.
 #[derive(Clone, Copy)]
 pub(crate) struct Task<'w> {
     pub(crate) order: ShowOrder<'w>,
-    /// The settings for showing messages.
+    /// The settings for messages.
     pub(crate) showing: Showing,
     /// The form of standard output.
     pub(crate) screen: Screen,
 }
 
-/// Carries out the request, and returns the outcome of its comparison, if it has one.
+/// Carries out the request. Returns the outcome of its comparison, or `Same` if it compares
+/// nothing.
 fn carry_out<
     'w,
     F: ComparableFiles,
@@ -176,7 +177,8 @@ fn carry_out<
     }
 }
 
-/// Returns the settings for showing messages, for an output that may be a terminal.
+/// Returns the settings for messages of an order. `is_terminal` is whether messages go to a
+/// terminal, which has colors unless `variables` forbid them.
 fn showing_of<V: Env>(
     alloc: Global,
     order: ShowOrder<'_>,
@@ -192,7 +194,7 @@ fn showing_of<V: Env>(
     }
 }
 
-/// Returns `Same` for a request without a comparison, if nothing failed.
+/// Returns `Same` if `done` succeeded, otherwise its failure. For requests that compare nothing.
 fn as_same<'w>(done: Result<(), Failure<'w>>) -> Result<Agreement, Failure<'w>>
     requires { IfErr done IsNoMisuse }
     ensures failed { IfErr result IsNoMisuse }
@@ -204,8 +206,8 @@ fn as_same<'w>(done: Result<(), Failure<'w>>) -> Result<Agreement, Failure<'w>>
     }
 }
 
-/// Answers the question about the lexers of a file, or compares the answer with a stored one.
-/// Returns the outcome of the comparison, if there is one.
+/// Answers the question about the lexers of a file, or compares the answer with the stored one that
+/// `--expect` names. Returns the outcome of the comparison, or `Same` if nothing is compared.
 fn answer_or_compare<'w, F: Files, C: Clock + StandardInput, O: Write, E: Write>(
     task: Task<'w>,
     files: &mut F,
@@ -224,8 +226,8 @@ fn answer_or_compare<'w, F: Files, C: Clock + StandardInput, O: Write, E: Write>
     }
 }
 
-/// Compares the answer to the question about the lexers of a file with the stored one at a path,
-/// writes the outcome, and returns it.
+/// Compares the answer to the question about the lexers of a file with the bytes stored at `path`.
+/// Writes the outcome to `out` and returns it.
 fn expect<'w, F: Files, C: Clock + StandardInput, O: Write, E: Write>(
     task: Task<'w>,
     path: &'w str,
@@ -249,8 +251,8 @@ fn expect<'w, F: Files, C: Clock + StandardInput, O: Write, E: Write>(
     write_agreement(alloc, path, &stored, &made, out)
 }
 
-/// Answers the question about the lexers of a file, and returns the outcome of its comparison, if
-/// it has one.
+/// Answers the question about the lexers of the file of the order. Returns the outcome of its
+/// comparison, or `Same` if the question compares nothing.
 fn answer<'w, F: Files, C: Clock + StandardInput, O: Write, E: Write>(
     task: Task<'w>,
     files: &mut F,
@@ -274,8 +276,8 @@ fn answer<'w, F: Files, C: Clock + StandardInput, O: Write, E: Write>(
     answer_about(task, &source, files, clock, err, out)
 }
 
-/// Answers the question about the lexers of this file, and returns the outcome of its comparison,
-/// if it has one.
+/// Answers the question about the lexers of `source`. Returns the outcome of its comparison, or
+/// `Same` if the question compares nothing.
 fn answer_about<'w, F: Files, C: Clock + StandardInput, O: Write, E: Write>(
     task: Task<'w>,
     source: &Source<'_>,
@@ -305,8 +307,8 @@ fn answer_about<'w, F: Files, C: Clock + StandardInput, O: Write, E: Write>(
     }
 }
 
-/// Writes the items of an input. Those of standard input are written as they are found, except as
-/// JSON.
+/// Writes the items of the input of the question. Items of standard input are written as they are
+/// found, unless they are written as JSON.
 fn lex_any<'w, F: Files, C: Clock + StandardInput, O: Write, E: Write>(
     task: Task<'w>,
     source: &Source<'_>,
@@ -325,7 +327,8 @@ fn lex_any<'w, F: Files, C: Clock + StandardInput, O: Write, E: Write>(
     }
 }
 
-/// Writes the tables or the examples of a file, and its warnings.
+/// Writes the tables or the examples of the lexers of a file, and the warnings of the file to
+/// standard error.
 fn show<'w, O: Write, E: Write>(
     task: Task<'w>,
     source: &Source<'_>,
@@ -353,8 +356,8 @@ fn show<'w, O: Write, E: Write>(
     print_bytes(&records, out)
 }
 
-/// Writes the tables or the examples of a file. The lines of tables are cut to the width of the
-/// screen.
+/// Writes `tables`, which may be empty. The lines of tables of leaves are cut to the width of the
+/// screen, but not those of examples.
 fn print_tables<'w, O: Write>(task: Task<'w>, tables: &str, out: &mut O) -> Result<(), Failure<'w>>
     ensures { IfErr result IsNoMisuse }
 {
@@ -367,14 +370,15 @@ fn print_tables<'w, O: Write>(task: Task<'w>, tables: &str, out: &mut O) -> Resu
     print_bytes(&block, out)
 }
 
-/// Returns whether the answer is JSON.
+/// Returns whether the answer to an order is JSON.
 pub(crate) fn is_json(order: ShowOrder<'_>) -> bool
     ensures { result ≡ is_json (order_value order.entry) }
 {
     order.settings.has(OptionName::Json)
 }
 
-/// Returns the form in which the lexers of a file are shown.
+/// Returns the form in which the lexers of a file are shown for an order. A question for neither
+/// leaves nor examples has the form of leaves.
 fn form_of(order: ShowOrder<'_>) -> Form {
     match (order.question, is_json(order)) {
         (Question::Examples, false) => Form::Examples,

@@ -1,4 +1,5 @@
-//! The texts of enums, and the refusals of files. Used by most modules of this crate.
+//! Returns the texts of enums and the refusals of files, and writes notes. Used by most modules of
+//! this crate.
 
 ghost use Rattle.std.specs.Prelude.{IfErr};
 ghost use Rattle.logos_show.specs.Views.{IsNoMisuse, IsPartAt, IsRefusal};
@@ -19,7 +20,7 @@ use logos_rust_file::{FoundEnum, enums_in};
 use std::alloc::Global;
 use std::io::Write;
 
-/// Returns the text at a span, or an empty one if the text has no such span.
+/// Returns the text at a span of `text`, or an empty text if `text` has no such span.
 fn slice(text: &str, span: Span) -> &str
     ensures { IsPartAt text.now span result.now }
 {
@@ -29,15 +30,15 @@ fn slice(text: &str, span: Span) -> &str
     }
 }
 
-/// Returns the text of an enum of a file.
+/// Returns the text of the enum `found` of a file.
 pub(crate) fn text_of<'t>(source: &Source<'t>, found: FoundEnum) -> &'t str
     ensures { IsPartAt source.now.text found.span result.now }
 {
     slice(source.text(), found.span)
 }
 
-/// Returns the refusal of a part of a file, with its faults, and with the clues about them if the
-/// part is an enum.
+/// Returns the refusal of a part of a file, with its faults. If an enum begins at the part, its
+/// clues and its warnings are added. Returns `Memory` if memory ran out.
 pub(crate) fn refused(
     alloc: Global,
     part: Part<'_, '_>,
@@ -53,7 +54,8 @@ pub(crate) fn refused(
     }
 }
 
-/// Returns the explanation of the enum at the beginning of a part of a file, if there is one.
+/// Returns the clues and the warnings of the enum at the beginning of a part of a file, or none if
+/// no enum begins there. The spans of the warnings are relative to the beginning of the file.
 fn known_of(alloc: Global, part: Part<'_, '_>) -> Result<Explained, Memory> {
     let Explained { clues, warnings } = explain(alloc, enum_at(alloc, part)?)?;
     let mut warned = Vec::new(alloc);
@@ -64,8 +66,9 @@ fn known_of(alloc: Global, part: Part<'_, '_>) -> Result<Explained, Memory> {
     })
 }
 
-/// Returns the refusal of a part of a file, with its faults and the clues about them. The spans of
-/// the warnings are relative to the beginning of the file.
+/// Returns the refusal of a part of a file, with its faults, and with the clues and the warnings of
+/// `known`. The spans of the warnings are relative to the beginning of the file. Returns `Memory`
+/// if memory ran out.
 pub(crate) fn refused_with(
     part: Part<'_, '_>,
     showing: Showing,
@@ -84,13 +87,14 @@ pub(crate) fn refused_with(
     }
 }
 
-/// Writes a note to standard error. If that fails, the note is lost.
+/// Writes a note to standard error. If writing fails, the failure is ignored.
 pub(crate) fn write_note<E: Write>(err: &mut E, note: &[u8]) {
     let _ = err.write_all(note);
     let _ = err.flush();
 }
 
-/// Returns the text of faults, with the warnings before them.
+/// Returns the messages about the faults `errors`, as text or as JSON, with the warnings of `known`
+/// before them.
 fn refusal_text(
     part: Part<'_, '_>,
     showing: Showing,
@@ -116,8 +120,8 @@ fn refusal_text(
     }
 }
 
-/// Returns the text of the enum at the beginning of a part of a file, or an empty text if there is
-/// none.
+/// Returns the text of the enum at the beginning of a part of a file. Returns an empty text if no
+/// enum begins there, or if the file cannot be read into tokens.
 fn enum_at<'t>(alloc: Global, part: Part<'_, 't>) -> Result<&'t str, Memory> {
     let found = match enums_in(alloc, part.source.text()) {
         Ok(found) => found,

@@ -1,4 +1,4 @@
-//! The items of standard input, one line for each, written as they are found. Used by `program`.
+//! Prints the items of standard input, one line for each, as they are found. Used by `program`.
 
 ghost use Rattle.std.specs.Prelude.{IfErr};
 ghost use Rattle.logos_show.specs.Imports.{IsNoMisuse};
@@ -15,7 +15,13 @@ use logos_report::Source;
 use std::io::{Input, Write};
 use std::time::Clock;
 
-/// Writes the items of standard input as they are found.
+/// Writes the items that the requested lexer of a file finds in standard input, as they are found,
+/// and a note to standard error.
+///
+/// # Errors
+///
+/// Returns the failures of `write_streamed`, and `Refused` if the file has no requested enum or the
+/// enum has no lexer. Items before the failure may have been written.
 pub(crate) fn lex_stream<'w, C: Clock + Input, O: Write, E: Write>(
     task: Task<'w>,
     source: &Source<'_>,
