@@ -366,9 +366,9 @@ fn has_comma(run: Tokens<'_, '_>) -> bool {
     false
 }
 
-/// Returns the mistake in a body that begins with the type of its value, after `->`, or `None` for
-/// any other body. `first` is the first token of the body, `rest` are the tokens after it, and the
-/// closure ends at the byte offset `to`.
+/// Returns the mistake in a body that begins with `->` and the type of its value, or `None` for any
+/// other body. `first` is the first token of the body, `rest` are the tokens after it, and the
+/// closure ends at the byte offset `to` in the source.
 fn type_mistake(to: usize, first: Punct, rest: Tokens<'_, '_>) -> Option<FoundMistake> {
     let from = first.span.from;
     if (first.character == '-') & begins_with('>', rest) {

@@ -127,8 +127,8 @@ pub fn shape_name(shape: Shape) -> &'static str
     }
 }
 
-/// Returns the name of the shape that is a loop over a state if `is_loop` is set, otherwise a
-/// function for each state.
+/// Returns the name of a shape of code: of the loop over a state if `is_loop` is set, otherwise of
+/// the function for each state.
 fn code_name(is_loop: bool) -> &'static str
     ensures { result.now ≡ code_name is_loop }
 {

@@ -1,6 +1,5 @@
-//! Chooses the help for a fault: a sentence for each code, for each kind of pattern fault, and for
-//! the tokens at the fault. Used by the programs and the derive macro, which add it to their
-//! reports.
+//! Chooses the help for a fault: a sentence for each code, each kind of pattern fault, and the
+//! tokens at the fault. Used by the programs and the derive macro.
 
 #![tactic(auto)]
 
