@@ -1,5 +1,5 @@
-//! Warnings for callbacks: tokens that a callback loses, and tokens that were probably not meant as
-//! a callback. Used by `explanation`.
+//! Warns of probable mistakes in callbacks: tokens that a closure loses or that exit another
+//! function, and tokens that were probably not meant as a callback. Used by `explanation`.
 
 ghost use Rattle.std.specs.Prelude.{◌≡◌, OnOk};
 ghost use Rattle.logos_causes.specs.Views.{AddsEach, IsOfCallback, callback_text};
@@ -13,29 +13,29 @@ use logos_token::util::begins_with;
 use logos_warnings::fixed_warning;
 use std::alloc::Global;
 
-/// The owner of a callback.
+/// The thing to which a callback belongs: a leaf, or the error type.
 #[derive(Clone, Copy)]
 pub(crate) enum CallbackOwner {
     Leaf,
     ErrorType,
 }
 
-/// A probable mistake in a callback.
+/// The kind of a probable mistake in a callback.
 #[derive(Clone, Copy)]
 pub(crate) enum CallbackMistake {
-    /// The callback is the name of an option.
+    /// The callback is the name of an argument, such as `priority`, without a value.
     OptionName,
     /// The callback is neither the path of a function nor a closure.
     NoFunction,
-    /// A closure ends before the end of its argument.
+    /// The body of a closure ends before its argument ends.
     Dropped,
-    /// The body of a closure loses its brackets.
+    /// The body of a closure loses the brackets or parentheses around it.
     NoBrackets,
-    /// A closure states the type of its value.
+    /// The body of a closure begins with the type of its value.
     TypeInBody,
-    /// A closure has a `return`.
+    /// The body of a closure contains a `return`.
     Return,
-    /// A closure has a `?`.
+    /// The body of a closure contains a `?`.
     Question,
 }
 
@@ -47,7 +47,8 @@ struct FoundMistake {
     help: &'static str,
 }
 
-/// Adds the warnings of the callbacks of these leaves of a source with these tokens.
+/// Appends to `warnings` those about the callbacks of `leaves`, in order. `tokens` are those of the
+/// source.
 pub(crate) fn add_callbacks(
     alloc: Global,
     tokens: Tokens<'_, '_>,
@@ -72,8 +73,8 @@ pub(crate) fn add_callbacks(
     Ok(())
 }
 
-/// Returns the index of the next closure after a callback. `next` is that index before the
-/// callback.
+/// Returns the index of the next closure after `callback`: `next`, the index before the callback,
+/// plus one if the callback is a closure.
 fn after_callback(callback: Option<&Callback<'_>>, next: usize) -> usize {
     match callback {
         Some(Callback::Inline(_)) => next.saturating_add(1),
@@ -81,7 +82,8 @@ fn after_callback(callback: Option<&Callback<'_>>, next: usize) -> usize {
     }
 }
 
-/// Adds the warnings of the callback for errors of a source with these tokens, if it has one.
+/// Appends to `warnings` those about the callback for errors, unless it is `None`. `tokens` are
+/// those of the source.
 pub(crate) fn add_error_callback(
     alloc: Global,
     tokens: Tokens<'_, '_>,
@@ -103,8 +105,8 @@ pub(crate) fn add_error_callback(
     )
 }
 
-/// Adds the warnings of a callback, if there is one. If the callback is a closure, `run` begins
-/// with it.
+/// Appends to `warnings` those about the callback of `owner`, unless it is `None`. If the callback
+/// is a closure, `run` begins with it, or is `None` if the closure was not found.
 fn add_callback(
     owner: CallbackOwner,
     callback: Option<&Callback<'_>>,
@@ -120,7 +122,7 @@ fn add_callback(
     }
 }
 
-/// Adds the warning for a mistake, if there is one.
+/// Appends to `warnings` the warning about the mistake `found`, unless it is `None`.
 fn add_found(found: Option<FoundMistake>, warnings: &mut Vec<Warning>) -> Result<(), Memory>
     ensures { OnOk result (AddsEach IsOfCallback warnings.old.items warnings.new.items) }
 {
@@ -160,7 +162,8 @@ fn callback_text(mistake: CallbackMistake) -> &'static str
 
 const PATH: &str = "write the path of a function, or a closure with one parameter, as `|lex| ..`";
 
-/// Returns the mistake of a callback that is not a closure, if it has one.
+/// Returns the mistake of a callback of `owner` that is not a closure, if it has one. `label` are
+/// the tokens of the callback.
 fn label_mistake(owner: CallbackOwner, label: Tokens<'_, '_>) -> Option<FoundMistake> {
     let span = label.span();
     if names_option(label) {
@@ -180,7 +183,7 @@ fn label_mistake(owner: CallbackOwner, label: Tokens<'_, '_>) -> Option<FoundMis
     })
 }
 
-/// Returns the help for an option without a value.
+/// Returns the help for `label`, the name of an argument without a value, as a callback of `owner`.
 fn help_for_option(owner: CallbackOwner, label: Tokens<'_, '_>) -> &'static str {
     match owner {
         CallbackOwner::Leaf => "write its value, as in `priority = 3` or `ignore(case)`",
@@ -188,7 +191,7 @@ fn help_for_option(owner: CallbackOwner, label: Tokens<'_, '_>) -> &'static str 
     }
 }
 
-/// Returns the help for a callback that is neither a path nor a closure.
+/// Returns the help for `label`, a callback of `owner` that is neither a path nor a closure.
 fn help_for_label(owner: CallbackOwner, label: Tokens<'_, '_>) -> &'static str {
     match owner {
         CallbackOwner::Leaf => help_for_leaf(label),
@@ -196,8 +199,8 @@ fn help_for_label(owner: CallbackOwner, label: Tokens<'_, '_>) -> &'static str {
     }
 }
 
-/// Returns the help for a callback of an error type that names no function. The only option of an
-/// error type is `callback`.
+/// Returns the help for `label`, a callback of an error type that names no function. The only
+/// argument of an error type that has a name is `callback`.
 fn help_for_error(label: Tokens<'_, '_>) -> &'static str {
     match label.first() {
         Some(TokenTree::Ident(name)) if name.text == "callback" => {
@@ -207,8 +210,8 @@ fn help_for_error(label: Tokens<'_, '_>) -> &'static str {
     }
 }
 
-/// Returns the help for a callback of a leaf that is neither a path nor a closure, chosen by its
-/// first token.
+/// Returns the help for `label`, a callback of a leaf that is neither a path nor a closure. Its
+/// first token decides.
 fn help_for_leaf(label: Tokens<'_, '_>) -> &'static str {
     match label.first() {
         Some(TokenTree::Ident(name)) if is_option(name.text) => {
@@ -224,7 +227,7 @@ fn help_for_leaf(label: Tokens<'_, '_>) -> &'static str {
     }
 }
 
-/// Returns whether a run consists of the name of an option.
+/// Returns whether `label` consists of the name of an argument alone.
 fn names_option(label: Tokens<'_, '_>) -> bool {
     match label.first() {
         Some(TokenTree::Ident(name)) => label.rest().is_empty() & is_option(name.text),
@@ -232,13 +235,14 @@ fn names_option(label: Tokens<'_, '_>) -> bool {
     }
 }
 
-/// Returns whether a name is that of an option of a pattern, or looks like one.
+/// Returns whether a name is that of an argument of a pattern, or one of two that are often taken
+/// for it: `ignore_case` and `ignore_ascii_case`.
 fn is_option(name: &str) -> bool {
     let is_argument = (name == "priority") | (name == "callback") | (name == "allow_greedy");
     is_argument | (name == "ignore") | (name == "ignore_case") | (name == "ignore_ascii_case")
 }
 
-/// Returns whether a whole run can be the path of a function.
+/// Returns whether all of `label` can be the path of a function.
 fn is_path(label: Tokens<'_, '_>) -> bool {
     let mut rest = label;
     while let Some(tree) = rest.first() {
@@ -250,7 +254,7 @@ fn is_path(label: Tokens<'_, '_>) -> bool {
     begins_path(label)
 }
 
-/// Returns whether a run begins like a path.
+/// Returns whether `label` begins like a path: with a name other than `move`, a `:` or a `<`.
 fn begins_path(label: Tokens<'_, '_>) -> bool {
     match label.first() {
         Some(TokenTree::Ident(name)) => name.text != "move",
@@ -269,7 +273,8 @@ fn is_path_part(tree: TokenTree<'_, '_>) -> bool {
     }
 }
 
-/// Adds the warnings of a closure, with which `run` begins.
+/// Appends to `warnings` those about a closure, first about the tokens of its body that exit the
+/// function around it. `run` begins with the closure, or is `None` if the closure was not found.
 fn add_closure(
     closure: &InlineCallback<'_>,
     run: Option<Tokens<'_, '_>>,
@@ -282,7 +287,7 @@ fn add_closure(
 }
 
 /// Returns the mistake in the body of the closure with which `run` begins and which ends at the
-/// offset `to`, if there is one.
+/// byte offset `to` in the source. Returns `None` if there is no mistake or no run.
 fn closure_mistake(to: usize, run: Option<Tokens<'_, '_>>) -> Option<FoundMistake> {
     match run {
         Some(run) => body_mistake(to, after_bars(run)),
@@ -290,12 +295,14 @@ fn closure_mistake(to: usize, run: Option<Tokens<'_, '_>>) -> Option<FoundMistak
     }
 }
 
-/// Returns the tokens after the parameter of a closure and the bars around it.
+/// Returns the tokens after the parameter of the closure with which `closure` begins, and after the
+/// bars around the parameter.
 fn after_bars<'t, 's>(closure: Tokens<'t, 's>) -> Tokens<'t, 's> {
     closure.rest().rest().rest()
 }
 
-/// Returns the mistake in the body of a closure that ends at the offset `to`, if there is one.
+/// Returns the mistake in the body with which `body` begins, if there is one. Its closure ends at
+/// the byte offset `to` in the source.
 fn body_mistake(to: usize, body: Tokens<'_, '_>) -> Option<FoundMistake> {
     match body.first() {
         Some(TokenTree::Group(group)) => group_mistake(to, group, body.rest()),
@@ -306,8 +313,8 @@ fn body_mistake(to: usize, body: Tokens<'_, '_>) -> Option<FoundMistake> {
 
 const BRACES: &str = "put all of the body in braces";
 
-/// Returns the mistake in a body that begins with a group: tokens between the group and the offset
-/// `to`, or brackets that matter, if there are any.
+/// Returns the mistake in a body that begins with `group`, if there is one: tokens of `rest`, the
+/// tokens after the group, before the byte offset `to`, or delimiters of the group that matter.
 fn group_mistake(to: usize, group: Group<'_, '_>, rest: Tokens<'_, '_>) -> Option<FoundMistake> {
     if let Some(span) = dropped(to, rest) {
         return Some(FoundMistake {
@@ -326,7 +333,8 @@ fn group_mistake(to: usize, group: Group<'_, '_>, rest: Tokens<'_, '_>) -> Optio
     None
 }
 
-/// Returns the span of the tokens of a run up to an offset, if there are any.
+/// Returns the span from the first token of `run` to the byte offset `to`, or `None` if no token of
+/// `run` begins before that offset.
 fn dropped(to: usize, run: Tokens<'_, '_>) -> Option<Span> {
     let from = run.first()?.span().from;
     if from < to {
@@ -336,7 +344,8 @@ fn dropped(to: usize, run: Tokens<'_, '_>) -> Option<Span> {
     }
 }
 
-/// Returns whether a body has another meaning without the brackets around it.
+/// Returns whether a group of the tokens `inside` has another meaning without its delimiters:
+/// whether it is in brackets, or in parentheses with a comma.
 fn loses_brackets(delimiter: Delimiter, inside: Tokens<'_, '_>) -> bool {
     match delimiter {
         Delimiter::Bracket => true,
@@ -345,7 +354,7 @@ fn loses_brackets(delimiter: Delimiter, inside: Tokens<'_, '_>) -> bool {
     }
 }
 
-/// Returns whether a run contains a comma outside of its groups.
+/// Returns whether `run` contains a comma outside of its groups.
 fn has_comma(run: Tokens<'_, '_>) -> bool {
     let mut rest = run;
     while !rest.is_empty() {
@@ -357,8 +366,9 @@ fn has_comma(run: Tokens<'_, '_>) -> bool {
     false
 }
 
-/// Returns the mistake in a body that begins with the punctuation `first` and ends at the offset
-/// `to`, if it begins with the type of its value.
+/// Returns the mistake in a body that begins with `->` and the type of its value, or `None` for any
+/// other body. `first` is the first token of the body, `rest` are the tokens after it, and the
+/// closure ends at the byte offset `to` in the source.
 fn type_mistake(to: usize, first: Punct, rest: Tokens<'_, '_>) -> Option<FoundMistake> {
     let from = first.span.from;
     if (first.character == '-') & begins_with('>', rest) {
@@ -371,7 +381,8 @@ fn type_mistake(to: usize, first: Punct, rest: Tokens<'_, '_>) -> Option<FoundMi
     None
 }
 
-/// Adds a warning for each token of a body that exits the function around the closure.
+/// Appends to `warnings` one for each `return` and `?` of `body` outside of its groups, which exit
+/// the function around the closure.
 fn add_escapes(body: Tokens<'_, '_>, warnings: &mut Vec<Warning>) -> Result<(), Memory>
     ensures { OnOk result (AddsEach IsOfCallback warnings.old.items warnings.new.items) }
 {
@@ -383,7 +394,8 @@ fn add_escapes(body: Tokens<'_, '_>, warnings: &mut Vec<Warning>) -> Result<(), 
     Ok(())
 }
 
-/// Returns the mistake of a token of a body, if it exits the function around the closure.
+/// Returns the mistake of a token that exits the function around the closure: a `return` or a `?`.
+/// Returns `None` for any other token.
 fn escape(tree: TokenTree<'_, '_>) -> Option<FoundMistake> {
     let (mistake, span) = match tree {
         TokenTree::Ident(name) if name.text == "return" => (CallbackMistake::Return, name.span),

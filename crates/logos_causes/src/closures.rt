@@ -1,11 +1,12 @@
-//! Finds the closures of a source, as runs of its tokens. Called by `callbacks`, once for all
-//! leaves and once for errors.
+//! Finds the closures of a source among its tokens. Called by `callbacks`, once for all leaves and
+//! once for errors.
 
 use logos_pattern::leaf::{Callback, Leaf};
 use logos_token::token::{TokenTree, Tokens};
 use std::alloc::{AllocError, Global};
 
-/// Returns the byte offset in the source at which a callback begins, if it is a closure.
+/// Returns the byte offset in the source at which `callback` begins if it is a closure, otherwise
+/// `None`.
 pub(crate) fn closure_start(callback: Option<&Callback<'_>>) -> Option<usize> {
     match callback {
         Some(Callback::Inline(closure)) => Some(closure.span.from),
@@ -13,7 +14,8 @@ pub(crate) fn closure_start(callback: Option<&Callback<'_>>) -> Option<usize> {
     }
 }
 
-/// Returns the byte offsets at which the closures of these leaves begin, in order.
+/// Returns the byte offsets in the source at which the closures of `leaves` begin, in the order of
+/// the leaves.
 pub(crate) fn closure_starts(alloc: Global, leaves: &[Leaf<'_>]) -> Result<Vec<usize>, AllocError> {
     let mut starts = Vec::new(alloc);
     for leaf in leaves {
@@ -24,8 +26,9 @@ pub(crate) fn closure_starts(alloc: Global, leaves: &[Leaf<'_>]) -> Result<Vec<u
     Ok(starts)
 }
 
-/// Returns the runs of a source that begin at these byte offsets, which ascend. Each extends to the
-/// end of the group that contains it.
+/// Returns the runs of a source with the tokens `tokens` whose first tokens begin at the byte
+/// offsets `starts`, which ascend. Each run extends to the end of the group or the source that
+/// contains it. The runs end before the first offset at which no token begins.
 pub(crate) fn runs_at<'t, 's>(
     alloc: Global,
     tokens: Tokens<'t, 's>,
@@ -36,7 +39,8 @@ pub(crate) fn runs_at<'t, 's>(
     Ok(runs)
 }
 
-/// Appends the runs within a run that begin at those offsets for which no run was found before.
+/// Appends to `runs` the runs within `run` and its groups that begin at the next offsets: those of
+/// `starts` from the index `runs.len()` on.
 #[cycle(search)]
 fn search_run<'t, 's>(
     run: Tokens<'t, 's>,
@@ -51,8 +55,8 @@ fn search_run<'t, 's>(
     Ok(())
 }
 
-/// Appends a run if its first token begins at the next offset, and the runs in a group at its
-/// beginning.
+/// Appends `run` to `runs` if its first token begins at the next offset, which is at the index
+/// `runs.len()` of `starts`. If that token is a group, also appends the runs in the group.
 #[cycle(search)]
 fn search_first<'t, 's>(
     run: Tokens<'t, 's>,
@@ -66,7 +70,8 @@ fn search_first<'t, 's>(
     }
 }
 
-/// Appends a run, if its first token begins at the next offset.
+/// Appends `run` to `runs` if its first token begins at the next offset, which is at the index
+/// `runs.len()` of `starts`.
 fn add_if_next<'t, 's>(
     run: Tokens<'t, 's>,
     starts: &[usize],

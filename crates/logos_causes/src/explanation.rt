@@ -22,14 +22,14 @@ use std::mem;
 /// The clues about a refused source, and its warnings.
 #[derive(Debug, Drop)]
 pub struct Explained {
-    /// The clues about the faults of the source's graph.
+    /// The clues about the faults of the source's graph, without helps.
     pub clues: Clues,
-    /// The warnings about the source.
+    /// The warnings for the source.
     pub warnings: Vec<Warning>,
 }
 
 impl Explained {
-    /// Returns the explanation of a source that cannot be read, which is empty.
+    /// Returns the empty explanation, that of a source which cannot be read as an enum.
     fn nothing(alloc: Global) -> Explained
         ensures { sizes_of result.clues ≡ [] }
     {
@@ -40,8 +40,8 @@ impl Explained {
     }
 }
 
-/// Returns the clues about the faults of a refused source, with the warnings for its callbacks. For
-/// a source that cannot be read they are empty.
+/// Returns the clues about the faults of the graph of a refused source, and the warnings for its
+/// callbacks. Both are empty if the source cannot be read as an enum.
 ///
 /// # Errors
 ///
@@ -53,8 +53,9 @@ pub fn explain(alloc: Global, source: &str) -> Result<Explained, Memory>
     explain_source(alloc, source, None)
 }
 
-/// Returns the clues of `explain` with all warnings for the enum that the source spells, which
-/// derives `Logos`: first those of `enum_warnings`. Thus the enum is read only once.
+/// Returns the clues of `explain`, and all warnings for the enum that the source spells, which
+/// derives `Logos`: those of `enum_warnings`, and then those of `explain`. Both are empty if the
+/// source cannot be read as an enum. The enum is read only once.
 ///
 /// # Errors
 ///
@@ -66,7 +67,7 @@ pub fn explain_enum(alloc: Global, source: &str, origin: Origin) -> Result<Expla
     explain_source(alloc, source, Some(origin))
 }
 
-/// Returns the explanation of a source. If `origin` is given, it includes the warnings of
+/// Returns the explanation of a source. Unless `origin` is `None`, it begins with the warnings of
 /// `enum_warnings`.
 fn explain_source(alloc: Global, source: &str, origin: Option<Origin>) -> Result<Explained, Memory>
     ensures { IfOk result (λ known. HasSets source.now (sizes_of known.clues)) }
@@ -77,7 +78,8 @@ fn explain_source(alloc: Global, source: &str, origin: Option<Origin>) -> Result
     }
 }
 
-/// Returns the explanation of a source without tokens, which is empty.
+/// Returns the explanation of a source that could not be read into tokens, which is empty. Returns
+/// `Memory` if memory ran out.
 fn explain_unreadable(alloc: Global, source: &str, error: TokenError) -> Result<Explained, Memory>
     requires { IsRefusal source.now error }
     ensures { IfOk result (λ known. HasSets source.now (sizes_of known.clues)) }
@@ -90,7 +92,8 @@ fn explain_unreadable(alloc: Global, source: &str, error: TokenError) -> Result<
     }
 }
 
-/// Returns the explanation of a source with these tokens.
+/// Returns the explanation of a source with the tokens `tokens`. Unless `origin` is `None`, it
+/// begins with the warnings of `enum_warnings`.
 fn explain_tokens(
     alloc: Global,
     source: &str,
@@ -107,7 +110,8 @@ fn explain_tokens(
     }
 }
 
-/// Returns the explanation of tokens that are not an enum, which is empty.
+/// Returns the explanation of tokens that could not be read as an enum, which is empty. Returns
+/// `Memory` if memory ran out.
 fn explain_misread(alloc: Global, error: ReadError) -> Result<Explained, Memory>
     ensures known { IfOk result (λ known. sizes_of known.clues ≡ []) }
     ensures fault { IfOk result (λ known. error ≢ ReadError.Memory) }
@@ -121,14 +125,15 @@ fn explain_misread(alloc: Global, error: ReadError) -> Result<Explained, Memory>
     }
 }
 
-/// The text of an enum, and its tokens.
+/// The text of an enum, with its tokens.
 #[derive(Clone, Copy)]
 struct EnumText<'t, 's> {
     source: &'s str,
     tokens: Tokens<'t, 's>,
 }
 
-/// Returns the clues about the faults of an enum, and its warnings.
+/// Returns the clues about the faults of the graph of the enum `item`, and its warnings, which
+/// begin with those of `enum_warnings` unless `origin` is `None`. `text` spells the enum.
 fn explain_item(
     alloc: Global,
     text: EnumText<'_, '_>,
@@ -143,7 +148,8 @@ fn explain_item(
     Ok(Explained { clues, warnings })
 }
 
-/// Returns the warnings for an enum that derives `Logos`, if its origin is given.
+/// Returns the warnings of `enum_warnings` for `item`, which derives `Logos`, or none if `origin`
+/// is `None`.
 fn known_warnings(
     alloc: Global,
     item: &ItemEnum<'_, '_>,
@@ -155,8 +161,8 @@ fn known_warnings(
     }
 }
 
-/// Returns the clues about the faults of the enum that a source spells. Adds the warnings of its
-/// callbacks.
+/// Returns the clues about the faults of the graph of the enum `item`, which `text` spells. Appends
+/// the warnings for its callbacks to `warnings`.
 fn clues_in(
     alloc: Global,
     text: EnumText<'_, '_>,
@@ -177,8 +183,8 @@ fn clues_in(
     }
 }
 
-/// Returns the clues about the faults of an analysis, whose leaves it takes out. Adds the warnings
-/// for its callbacks.
+/// Returns the clues about the faults of the graph of an analysis, whose leaves are taken out.
+/// Appends the warnings for its callbacks to `warnings`. `tokens` are those of the source.
 fn clues_of_analysis(
     alloc: Global,
     tokens: Tokens<'_, '_>,
@@ -195,7 +201,7 @@ fn clues_of_analysis(
     clues_of_leaves(alloc, leaves_of(alloc, analysis), utf8_mode)
 }
 
-/// Returns the callback for errors of an analysis, if there is one.
+/// Returns the callback for errors of an analysis, or `None` if there is none.
 fn callback_of<'a, 's>(analysis: &'a Analysis<'s>) -> Option<&'a Callback<'s>> {
     match &analysis.parser.error_type {
         Some(error) => error.callback.as_ref(),
@@ -203,15 +209,15 @@ fn callback_of<'a, 's>(analysis: &'a Analysis<'s>) -> Option<&'a Callback<'s>> {
     }
 }
 
-/// Takes the leaves out of an analysis, and returns them.
+/// Returns the leaves of an analysis, and leaves it without leaves.
 fn leaves_of<'s>(alloc: Global, analysis: &mut Analysis<'s>) -> Vec<Leaf<'s>>
     ensures { result ≡ analysis.old.leaves }
 {
     mem::replace(&mut analysis.leaves, Vec::new(alloc))
 }
 
-/// Returns the clues about the faults of the graph of leaves. There are none if a limit prevents
-/// its construction.
+/// Returns the clues about the faults of the graph of `leaves`. They are empty if a limit prevents
+/// the construction of the graph.
 fn clues_of_leaves(alloc: Global, leaves: Vec<Leaf<'_>>, utf8_mode: bool) -> Result<Clues, Memory>
     ensures { IfOk result (λ clues. LeavesHaveSets leaves.entry.items (sizes_of clues)) }
 {
@@ -223,7 +229,7 @@ fn clues_of_leaves(alloc: Global, leaves: Vec<Leaf<'_>>, utf8_mode: bool) -> Res
     }
 }
 
-/// Returns the clues about the faults of a graph.
+/// Returns the clues about the faults of a graph, without helps.
 fn clues_of(alloc: Global, graph: &Graph<'_>) -> Result<Clues, AllocError>
     ensures { IfOk result (λ clues. sizes_of clues ≡ set_sizes graph.now.faults) }
 {
@@ -234,9 +240,9 @@ fn clues_of(alloc: Global, graph: &Graph<'_>) -> Result<Clues, AllocError>
     })
 }
 
-/// Returns the warnings of an enum without faults, which has these tokens and derives `Logos`:
-/// those of `enum_warnings`, then those of the callbacks of its lexer, one of which may be for
-/// errors, and those of leaves that are never found.
+/// Returns the warnings for an enum without faults, which has the tokens `tokens` and derives
+/// `Logos`: first those of `enum_warnings`, then those for the callbacks of its lexer, beginning
+/// with the callback for errors, and then those for leaves that are never found.
 ///
 /// # Errors
 ///
@@ -255,7 +261,8 @@ pub fn accepted_warnings(
     Ok(warnings)
 }
 
-/// Adds the warnings of the callbacks of a lexer, and those of leaves that are never found.
+/// Appends to `warnings` those for the callbacks of a lexer, and those for leaves that are never
+/// found. `tokens` are those of its source.
 fn add_of_lexer(
     alloc: Global,
     tokens: Tokens<'_, '_>,
@@ -271,11 +278,11 @@ fn add_of_lexer(
     Ok(())
 }
 
-/// A lexer without faults, for which warnings are searched.
+/// The graph of a lexer without faults, with its callback for errors.
 #[derive(Clone, Copy)]
 pub struct Lexer<'g, 's> {
     /// The graph of the lexer, with its leaves.
     pub graph: &'g Graph<'s>,
-    /// The callback for errors, if there is one.
+    /// The callback for errors, or `None` if there is none.
     pub error: Option<&'g Callback<'s>>,
 }

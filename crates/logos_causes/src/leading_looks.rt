@@ -1,4 +1,4 @@
-//! The patterns that can examine the bytes before their start. Used by `explanation`.
+//! Finds the patterns that can examine the bytes before their start. Used by `explanation`.
 
 ghost use Rattle.std.specs.Prelude.{◌≡◌, ◌∷◌, []};
 ghost use Rattle.logos_causes.specs.Imports.{some_leads, rule_of};
@@ -9,7 +9,7 @@ use logos_pattern::leaf::{Leaf, VariantKind};
 use logos_report::Start;
 use std::alloc::{AllocError, Global};
 
-/// Returns the patterns of these leaves that can examine the bytes before their start.
+/// Returns the patterns of `leaves` that can examine the bytes before their start, in order.
 pub(crate) fn starts_of(alloc: Global, leaves: &[Leaf<'_>]) -> Result<Vec<Start>, AllocError> {
     let mut starts = Vec::new(alloc);
     for leaf in leaves {
@@ -18,7 +18,7 @@ pub(crate) fn starts_of(alloc: Global, leaves: &[Leaf<'_>]) -> Result<Vec<Start>
     Ok(starts)
 }
 
-/// Adds the pattern of a leaf, if it can examine the bytes before its start.
+/// Appends the pattern of `leaf` to `starts` if it can examine the bytes before its start.
 fn add_start(alloc: Global, leaf: &Leaf<'_>, starts: &mut Vec<Start>) -> Result<(), AllocError> {
     if !looks_first(leaf) {
         return Ok(());

@@ -1,6 +1,6 @@
-//! Explains the faults of a graph, and finds probable mistakes in a lexer: the texts on which
-//! ambiguous leaves meet, the patterns that begin with a look-around assertion, the leaves that are
-//! never found, and the tokens that callbacks lose. Called by the programs and the derive macro.
+//! Explains the faults of a graph by the texts on which ambiguous leaves meet and by patterns that
+//! examine the bytes before their start, and warns of leaves that are never found and of tokens
+//! that callbacks lose. Called by the programs and the derive macro.
 
 #![tactic(auto)]
 

@@ -14,10 +14,10 @@ use logos_pattern::leaf::Leaf;
 use logos_report::Meeting;
 use std::alloc::{AllocError, Global};
 
-/// The maximum number of sets for which a text on which their leaves meet is searched.
+/// The maximum number of sets for which a text is searched on which their leaves meet.
 const SEARCHED: usize = 10;
 
-/// Returns the clue about each set of ambiguous leaves of a graph, in order.
+/// Returns the clues about the sets of ambiguous leaves of a graph, in order, one for each set.
 pub(crate) fn meetings_of(alloc: Global, graph: &Graph<'_>) -> Result<Vec<Meeting>, AllocError>
     ensures { IfOk result (λ meetings. map size_of meetings.items ≡ set_sizes graph.now.faults) }
 {
@@ -29,7 +29,8 @@ pub(crate) fn meetings_of(alloc: Global, graph: &Graph<'_>) -> Result<Vec<Meetin
     Ok(meetings)
 }
 
-/// Adds the clue about a set of ambiguous leaves, if the fault is about one.
+/// Appends to `meetings` the clue about the set of ambiguous leaves that `fault` names, if it names
+/// such a set.
 fn add_fault(
     alloc: Global,
     graph: &Graph<'_>,
@@ -46,7 +47,7 @@ fn add_fault(
     }
 }
 
-/// Adds the clue about the set of ambiguous leaves with these numbers.
+/// Appends to `meetings` the clue about the set of ambiguous leaves `leaves`.
 fn add_set(
     alloc: Global,
     graph: &Graph<'_>,
@@ -63,7 +64,7 @@ fn add_set(
     Ok(())
 }
 
-/// Returns the numbers of leaves.
+/// Returns the numbers of `leaves`, in order.
 fn numbers_of(alloc: Global, leaves: &[LeafId]) -> Result<Vec<usize>, AllocError>
     ensures { IfOk result (λ set. set.items ≡ numbers leaves.now) }
 {
@@ -74,8 +75,8 @@ fn numbers_of(alloc: Global, leaves: &[LeafId]) -> Result<Vec<usize>, AllocError
     Ok(set)
 }
 
-/// Returns the clue about a set of ambiguous leaves. It has a text on which they meet only if
-/// `is_searched` is set.
+/// Returns the clue about the set of ambiguous leaves with the numbers `set`. A text on which they
+/// meet is searched only if `is_searched` is set.
 fn meeting_of(
     alloc: Global,
     graph: &Graph<'_>,
@@ -90,7 +91,7 @@ fn meeting_of(
     })
 }
 
-/// Returns the names of these leaves.
+/// Returns the names of those of `leaves` that have the numbers `set`, in the order of the numbers.
 fn names_of(alloc: Global, leaves: &[Leaf<'_>], set: &[usize]) -> Result<Vec<String>, AllocError>
     ensures { IfOk result (λ names. length names.items ≡ length set.now) }
 {
@@ -101,7 +102,8 @@ fn names_of(alloc: Global, leaves: &[Leaf<'_>], set: &[usize]) -> Result<Vec<Str
     Ok(names)
 }
 
-/// Returns the name of the leaf with a number.
+/// Returns the name of the leaf with the number `number`, or an empty text if there is no such
+/// leaf.
 fn name_at(alloc: Global, leaves: &[Leaf<'_>], number: usize) -> Result<String, AllocError> {
     let name = match leaves.get(number) {
         Some(leaf) => name_of(leaf),
@@ -110,8 +112,9 @@ fn name_at(alloc: Global, leaves: &[Leaf<'_>], number: usize) -> Result<String, 
     String::from_str(alloc, name)
 }
 
-/// Returns the note with the priority that would decide between the leaves of a set. If
-/// `is_searched` is set, the note has a text on which they meet.
+/// Returns the note about the set of ambiguous leaves with the numbers `set`: a text on which they
+/// meet, their priority, and the one that would decide. A general phrase takes the place of the
+/// text if none is found or `is_searched` is not set.
 fn note_of(
     alloc: Global,
     graph: &Graph<'_>,
@@ -133,7 +136,8 @@ fn note_of(
     page.finish()
 }
 
-/// Returns the priority of a set of ambiguous leaves.
+/// Returns the priority of a set of ambiguous leaves, which all have that of the first, or 0 if
+/// there is no such leaf.
 fn priority_of(leaves: &[Leaf<'_>], set: &[usize]) -> usize {
     let Some(first) = set.first() else {
         return 0;
@@ -144,7 +148,8 @@ fn priority_of(leaves: &[Leaf<'_>], set: &[usize]) -> usize {
     }
 }
 
-/// Appends the priority of a set, and the lowest one that would decide.
+/// Appends the priority of a set of ambiguous leaves, and the lowest one that would decide between
+/// them.
 fn push_priority(page: &mut Page, priority: usize) {
     page.push(" with priority ");
     page.push_number(priority);
@@ -153,8 +158,8 @@ fn push_priority(page: &mut Page, priority: usize) {
     page.push(" would decide");
 }
 
-/// Appends a shortest text on which exactly the leaves of a set meet, or a general phrase if none
-/// is found.
+/// Appends the text on which exactly the leaves with the numbers `set` meet in a shortest input,
+/// and the rest of that input. Appends a general phrase if no such input is found.
 fn push_text(
     alloc: Global,
     page: &mut Page,
@@ -174,8 +179,8 @@ fn push_text(
     }
 }
 
-/// Returns a shortest input that begins with a text on which exactly the leaves of a set meet, if
-/// there is one and the set ascends.
+/// Returns a shortest input with a prefix on which exactly the leaves with the numbers `set` meet.
+/// Returns `None` if there is none, or the numbers are none or do not ascend.
 fn text_of(alloc: Global, graph: &Graph<'_>, set: &[usize]) -> Result<Option<Vec<u8>>, AllocError> {
     if set.is_empty() {
         return Ok(None);
@@ -187,7 +192,7 @@ fn text_of(alloc: Global, graph: &Graph<'_>, set: &[usize]) -> Result<Option<Vec
     Ok(found)
 }
 
-/// Returns whether each of these numbers is below the next one.
+/// Returns whether the numbers of `set` ascend, without equal ones.
 fn ascends(set: &[usize]) -> bool
     ensures { IsTrue result → IsStrictlyIncreasing set.now }
 {
@@ -201,8 +206,8 @@ fn ascends(set: &[usize]) -> bool
     true
 }
 
-/// Appends the text on which leaves meet, which is the prefix of an input up to `end`, and the
-/// bytes that follow it in the input, if there are any.
+/// Appends the text on which leaves meet, which is the prefix of `input` up to `end`, and the rest
+/// of `input`, if it is not empty.
 fn push_found(page: &mut Page, input: &[u8], end: usize)
     requires { end ≤ length input.now }
 {
@@ -213,8 +218,9 @@ fn push_found(page: &mut Page, input: &[u8], end: usize)
     }
 }
 
-/// Returns the end of a match of exactly the leaves of a set, or the greatest number if there is
-/// none.
+/// Returns the first offset in the input at which matches of exactly the leaves with the numbers
+/// `set` end, or `usize::MAX` if there is none. `matches` are all matches from the beginning of the
+/// input.
 fn end_of(matches: &[Match], set: &[usize]) -> usize {
     for one in matches {
         if is_first(*one, set) && is_met(matches, *one, set) {
@@ -224,7 +230,7 @@ fn end_of(matches: &[Match], set: &[usize]) -> usize {
     usize::MAX
 }
 
-/// Returns whether a match is a match of the first leaf of a set.
+/// Returns whether `one` is a match of the first leaf of `set`. Returns `false` for an empty set.
 fn is_first(one: Match, set: &[usize]) -> bool {
     match set.first() {
         Some(leaf) => one.leaf == *leaf,
@@ -232,8 +238,8 @@ fn is_first(one: Match, set: &[usize]) -> bool {
     }
 }
 
-/// Returns whether exactly the leaves of a set match up to the end of `one` with at least its
-/// priority.
+/// Returns whether exactly the leaves with the numbers `set` have a match that ends with `one` and
+/// has at least its priority.
 fn is_met(matches: &[Match], one: Match, set: &[usize]) -> bool {
     let mut count: usize = 0;
     for other in matches {

@@ -1,10 +1,10 @@
-//! The names of leaves in messages. Used by `leading_looks`, `meetings` and `shadowed_leaves`.
+//! Names leaves in messages. Used by `leading_looks`, `meetings` and `shadowed_leaves`.
 
 use logos_page::Page;
 use logos_pattern::leaf::{Leaf, VariantKind};
 use std::alloc::{AllocError, Global};
 
-/// Returns the name of the variant of a leaf, or `skip`.
+/// Returns the name of the variant of a leaf, or `skip` for a leaf that has no variant.
 pub(crate) fn name_of<'l>(leaf: &'l Leaf<'_>) -> &'l str {
     match &leaf.kind {
         VariantKind::Unit(name) => name.text,

@@ -6,7 +6,8 @@ use std::str;
 /// The maximum number of bytes of an input that are shown.
 const MOST: usize = 60;
 
-/// Appends bytes in quotes: as a text if they are UTF-8, otherwise as numbers.
+/// Appends at most the first 60 of `bytes` in quotes: as a text if all of `bytes` are UTF-8,
+/// otherwise as numbers. If some are left out, `..` follows.
 pub(crate) fn push_quoted(page: &mut Page, bytes: &[u8]) {
     page.push("\"");
     match str::from_utf8(bytes) {
@@ -16,7 +17,8 @@ pub(crate) fn push_quoted(page: &mut Page, bytes: &[u8]) {
     page.push("\"");
 }
 
-/// Appends a prefix of a text, in the form in which it is shown on a terminal.
+/// Appends a text in the form in which it is shown on a terminal. If it has more than `MOST` bytes,
+/// appends its front and `..` instead.
 fn push_text(page: &mut Page, text: &str) {
     if text.len() > MOST {
         page.push_shown(front_of(text));
@@ -26,7 +28,7 @@ fn push_text(page: &mut Page, text: &str) {
     }
 }
 
-/// Returns the longest prefix of a text that fits into `MOST` bytes.
+/// Returns the longest prefix of a text with at most `MOST` bytes.
 fn front_of(text: &str) -> &str {
     let mut end = MOST;
     while end > 0 {
@@ -38,7 +40,8 @@ fn front_of(text: &str) -> &str {
     ""
 }
 
-/// Appends a prefix of some bytes, each as a number.
+/// Appends the first `MOST` of `bytes`, each as `\x` and two hexadecimal digits, and `..` if there
+/// are more.
 fn push_bytes(page: &mut Page, bytes: &[u8]) {
     for byte in bytes.iter().take(MOST) {
         page.push("\\x");
@@ -50,7 +53,7 @@ fn push_bytes(page: &mut Page, bytes: &[u8]) {
     }
 }
 
-/// Returns the hexadecimal digit of a number below 16.
+/// Returns the hexadecimal digit of a number, or an empty text if the number is 16 or more.
 fn digit(value: u8) -> &'static str {
     const DIGITS: &str = "0123456789ABCDEF";
     let at = usize::from(value);

@@ -1,4 +1,5 @@
-//! Leaves that are never found, with the leaves that hide them. Used by `explanation`.
+//! Finds the leaves that are never found in an input, and those that hide them. Used by
+//! `explanation`.
 
 ghost use Rattle.std.specs.Prelude.{◌≡◌, ◌<◌, IfOk, IsTrue, OnOk, length};
 ghost use Rattle.logos_causes.specs.Views.{AddsEach, AreMarks, IsHidden, IsMarked, IsSet};
@@ -15,10 +16,10 @@ use logos_report::Warning;
 use logos_warnings::plain_warning;
 use std::alloc::{AllocError, Global};
 
-/// The maximum number of leaves for which a hiding leaf is searched.
+/// The maximum number of leaves for which a leaf that hides them is searched.
 const SEARCHED: usize = 10;
 
-/// Adds a warning for each leaf of a graph that is never found.
+/// Appends to `warnings` one for each leaf of a graph that is never found.
 pub(crate) fn add_hidden(
     alloc: Global,
     graph: &Graph<'_>,
@@ -34,8 +35,9 @@ pub(crate) fn add_hidden(
     Ok(())
 }
 
-/// Adds the warning for a leaf if its flag is not set, which means that it is never found. Returns
-/// the number of leaves with a warning, of which `count` come before the leaf.
+/// Appends to `warnings` the one for the leaf `number` if its flag in `marked` is not set, which
+/// means that the leaf is never found. Returns the number of leaves up to this one that have a
+/// warning, of which `count` come before it.
 fn add_if_hidden(
     graph: &Graph<'_>,
     marked: &[bool],
@@ -55,7 +57,7 @@ fn add_if_hidden(
     Ok(count)
 }
 
-/// Returns whether the flag of a leaf is not set.
+/// Returns whether the leaf `number` has a flag in `marked` that is not set.
 fn is_unmarked(marked: &[bool], number: usize) -> bool
     ensures { IsTrue result → ¬ IsSet marked.now number }
 {
@@ -65,8 +67,8 @@ fn is_unmarked(marked: &[bool], number: usize) -> bool
     false
 }
 
-/// Adds the warning for a leaf that is never found. Names the leaf that is found instead only if
-/// `is_searched` is set.
+/// Appends to `warnings` the one for the leaf `number`, which is never found. The warning names the
+/// leaf that is found instead only if `is_searched` is set.
 fn add_leaf(
     graph: &Graph<'_>,
     number: usize,
@@ -85,8 +87,8 @@ fn add_leaf(
     Ok(())
 }
 
-/// Returns the warning for the leaf of a graph with this number, which is never found. Names the
-/// leaf that is found instead only if `is_searched` is set.
+/// Returns the warning for `hidden`, a leaf of the graph that is never found, with its number. The
+/// warning names the leaf that is found instead only if `is_searched` is set.
 fn hidden_warning(
     alloc: Global,
     graph: &Graph<'_>,
@@ -103,7 +105,7 @@ fn hidden_warning(
     Ok(warning)
 }
 
-/// Returns the warning for a leaf that is never found.
+/// Returns the warning for a leaf that is never found, without the leaf that is found instead.
 fn warning_of(alloc: Global, leaf: &Leaf<'_>) -> Result<Warning, AllocError>
     ensures { IfOk result (λ warning. warning.span ≡ leaf.now.span) }
 {
@@ -116,7 +118,8 @@ fn warning_of(alloc: Global, leaf: &Leaf<'_>) -> Result<Warning, AllocError>
     Ok(plain_warning(message, leaf.span, None))
 }
 
-/// Adds to the warning the leaf that is found instead of the leaf `number`, if there is one.
+/// Adds to `warning` a text on which another leaf is found instead of the leaf `number`, and the
+/// name and the span of that leaf. Leaves the warning unchanged if no such text exists.
 fn explain(
     alloc: Global,
     graph: &Graph<'_>,
@@ -141,7 +144,9 @@ fn explain(
     Ok(())
 }
 
-/// Returns the relation between the patterns of two leaves, as the end of a sentence.
+/// Returns the relation between the patterns of the leaves `one` and `other` as the end of a
+/// sentence: their literals are equal, or they match the same texts. Returns an empty text if
+/// neither holds.
 fn likeness_of(graph: &Graph<'_>, one: usize, other: usize) -> &'static str {
     if is_written_alike(graph.leaves(), one, other) {
         ": its pattern is the same"
@@ -152,7 +157,7 @@ fn likeness_of(graph: &Graph<'_>, one: usize, other: usize) -> &'static str {
     }
 }
 
-/// Returns whether two leaves have patterns with equal text.
+/// Returns whether the patterns of the leaves `one` and `other` have equal texts.
 fn is_written_alike(leaves: &[Leaf<'_>], one: usize, other: usize) -> bool {
     match (leaves.get(one), leaves.get(other)) {
         (Some(one), Some(other)) => one.pattern.source() == other.pattern.source(),
@@ -160,8 +165,8 @@ fn is_written_alike(leaves: &[Leaf<'_>], one: usize, other: usize) -> bool {
     }
 }
 
-/// Returns whether two leaves match exactly the same texts: whether each state lists both or
-/// neither.
+/// Returns whether the leaves `one` and `other` match exactly the same texts: whether each state
+/// lists both or neither.
 fn are_twins(dfa: &Dfa, one: usize, other: usize) -> bool {
     for state in dfa.get_states() {
         if parts_leaves(dfa, state, one, other) {
@@ -171,7 +176,8 @@ fn are_twins(dfa: &Dfa, one: usize, other: usize) -> bool {
     true
 }
 
-/// Returns whether a state lists exactly one of two leaves.
+/// Returns whether `state` lists exactly one of the leaves `one` and `other`. Returns `false` if
+/// `dfa` does not have the state.
 fn parts_leaves(dfa: &Dfa, state: StateId, one: usize, other: usize) -> bool {
     if !dfa.contains(state) {
         return false;
@@ -180,7 +186,7 @@ fn parts_leaves(dfa: &Dfa, state: StateId, one: usize, other: usize) -> bool {
     lists(matches, one) != lists(matches, other)
 }
 
-/// Returns whether a leaf is among `leaves`.
+/// Returns whether the leaf `number` is among `leaves`.
 fn lists(leaves: Matches<'_>, number: usize) -> bool {
     for leaf in leaves {
         if leaf.0 == number {
@@ -190,8 +196,8 @@ fn lists(leaves: Matches<'_>, number: usize) -> bool {
     false
 }
 
-/// Returns the note with the leaf that is found instead of another one, the text, and the relation
-/// between their patterns.
+/// Returns the note which states that on the text `bytes` the leaf `other` is found, with its
+/// priority and with `likeness`, the relation to the leaf that is never found.
 fn note_of(
     alloc: Global,
     bytes: &[u8],

@@ -1,4 +1,5 @@
-//! Derives an enum: its implementation, or its errors. Called by the derive macro.
+//! Derives an enum: returns its implementation or its errors, and its warnings. Called by the
+//! derive macro.
 
 ghost use Rattle.std.specs.Prelude.{IfOk};
 ghost use Rattle.logos_derive.specs.Views.{All, HasErrors, IsAcceptedBy, IsDerivation, IsRefusedFor, IsWarning, around_made, sizes_of};
@@ -16,18 +17,19 @@ use logos_token::token::{Tokens, tokenize};
 use logos_warnings::Origin;
 use std::alloc::Global;
 
-/// The result of deriving an enum.
+/// The implementation or the errors of an enum, with its warnings.
 #[derive(Debug, Drop)]
 pub struct Derivation {
-    /// The implementation, if the enum is accepted.
+    /// The implementation, or `None` if the enum is refused.
     pub implementation: Option<Sink>,
-    /// The errors, in the order of the faults, and then the warnings.
+    /// The errors, in the order of their faults, and after them the warnings.
     pub diagnostics: Vec<Diagnostic>,
 }
 
-/// Returns the derivation of the enum that a source spells. An enum without faults is accepted: it
-/// has an implementation in this shape, and no errors. An enum with faults is refused, with at
-/// least one error, and with the helps for its faults. Both may have warnings.
+/// Returns the derivation of the enum that `source` spells. An enum without faults is accepted: it
+/// has an implementation in the shape `shape`, and no errors. An enum with faults is refused: it
+/// has no implementation, and at least one error, with the helps that `helps` adds. Both may have
+/// warnings.
 ///
 /// # Errors
 ///
@@ -49,7 +51,8 @@ pub fn derive<H: Helps>(
     }
 }
 
-/// Returns the derivation of an accepted source.
+/// Returns the derivation of an accepted source, for which `made` was generated: its implementation
+/// in the shape `shape`, and its warnings.
 fn accepted(
     alloc: Global,
     source: &str,
@@ -66,7 +69,7 @@ fn accepted(
     })
 }
 
-/// Returns the warnings for an accepted source.
+/// Returns the warnings for an accepted source, for which `made` was generated.
 fn warnings_by(alloc: Global, source: &str, made: &Generated<'_>) -> Result<Vec<Diagnostic>, Memory>
     ensures { IfOk result (λ diagnostics. All IsWarning diagnostics.items) }
 {
@@ -77,7 +80,8 @@ fn warnings_by(alloc: Global, source: &str, made: &Generated<'_>) -> Result<Vec<
     }
 }
 
-/// Returns the warnings of an accepted source with these tokens.
+/// Returns the warnings for an accepted source with the tokens `tokens`, for which `made` was
+/// generated.
 fn warnings_with(
     alloc: Global,
     tokens: Tokens<'_, '_>,
@@ -93,7 +97,8 @@ fn warnings_with(
     warnings_of(alloc, &warned)
 }
 
-/// Returns the derivation of a refused source, which has these faults.
+/// Returns the derivation of a source that is refused for the faults `errors`: their errors, and
+/// the warnings.
 fn refused<H: Helps>(
     alloc: Global,
     source: &str,
@@ -110,7 +115,8 @@ fn refused<H: Helps>(
     })
 }
 
-/// Returns the errors and then the warnings for a refused source, given its explanation.
+/// Returns the errors for the faults `errors` of a refused source, and after them its warnings.
+/// `known` is the explanation of the source, to whose clues `helps` adds the helps.
 fn diagnostics_of<H: Helps>(
     alloc: Global,
     source: &str,

@@ -1,32 +1,31 @@
-//! Errors and warnings in the form in which the derive macro shows them. Used by `errors` and
-//! `warnings`.
+//! Errors and warnings, as the derive macro shows them. Used by `errors` and `warnings`.
 
 use logos_token::error::{FaultCode, Memory};
 use logos_token::token::Span;
 use std::alloc::Global;
 
-/// The level of a diagnostic. An error refuses its enum.
+/// The level of a diagnostic: an error, which refuses its enum, or a warning.
 #[derive(Clone, Copy, Debug, PartialEq, Eq)]
 pub enum Level {
     Error,
     Warning,
 }
 
-/// An error or a warning. Spans are byte offsets in the source.
+/// An error or a warning about an enum. Its spans are in bytes of the source.
 #[derive(Debug, Drop)]
 pub struct Diagnostic {
     pub level: Level,
-    /// The code of an error.
+    /// The code of the fault, or `None` for a warning.
     pub code: Option<FaultCode>,
     /// The first line of the message.
     pub message: String,
     /// The primary span.
     pub span: Span,
-    /// The part of a literal that is wrong, if it is not all of `span`.
+    /// The span of the character at which a pattern is faulty, if it is not all of `span`.
     pub carets: Option<Span>,
     /// Further spans, each with a label.
     pub labels: Vec<Label>,
-    /// The rest of the message, and the help.
+    /// The lines under the message: its other lines, the clues and the help.
     pub notes: Vec<Note>,
 }
 
@@ -42,19 +41,19 @@ pub struct Label {
 /// A line under a diagnostic.
 #[derive(Debug, Drop)]
 pub struct Note {
-    /// Whether the line is a help.
+    /// Whether the line is a help: a way to fix the fault or the mistake.
     pub is_help: bool,
     pub text: String,
 }
 
-/// Adds a further span with its label.
+/// Appends the further span `span` with the label `text` to `labels`.
 pub(crate) fn add_label(span: Span, text: &str, labels: &mut Vec<Label>) -> Result<(), Memory> {
     let text = String::from_str(*labels.allocator(), text)?;
     labels.push(Label { span, text })?;
     Ok(())
 }
 
-/// Adds the second span of a fault or a warning, if it has one.
+/// Appends the second span `also` of a fault or a warning to `labels`, unless it is `None`.
 pub(crate) fn add_other(also: Option<Span>, labels: &mut Vec<Label>) -> Result<(), Memory> {
     match also {
         Some(span) => add_label(span, "see also", labels),
@@ -62,17 +61,17 @@ pub(crate) fn add_other(also: Option<Span>, labels: &mut Vec<Label>) -> Result<(
     }
 }
 
-/// Adds a note.
+/// Appends the line `text` to `notes`, as a line that is not a help.
 pub(crate) fn add_note(text: &str, notes: &mut Vec<Note>) -> Result<(), Memory> {
     add_line(false, text, notes)
 }
 
-/// Adds a help.
+/// Appends the help `text` to `notes`.
 pub(crate) fn add_help(text: &str, notes: &mut Vec<Note>) -> Result<(), Memory> {
     add_line(true, text, notes)
 }
 
-/// Adds a line.
+/// Appends the line `text` to `notes`, which is a help if `is_help` is set.
 fn add_line(is_help: bool, text: &str, notes: &mut Vec<Note>) -> Result<(), Memory> {
     let text = String::from_str(*notes.allocator(), text)?;
     notes.push(Note { is_help, text })?;

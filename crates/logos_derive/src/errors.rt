@@ -1,5 +1,5 @@
 //! The faults of an enum as errors: one for each fault that is not part of an earlier error, but at
-//! most 50 with one code. Called by `derivation`.
+//! most 50 for faults with one code. Called by `derivation`.
 
 ghost use Rattle.std.specs.Prelude.{◌≡◌, ◌≤◌, ◌++◌, IfOk, OnOk, length, map, take};
 ghost use Rattle.logos_derive.specs.Views.{errors_at, error_summaries, fault_of, faults_of, has_error, next_value, summary_of, error_summary, sizes_of};
@@ -15,7 +15,8 @@ use logos_token::error::{FaultCode, Memory, SpannedError};
 use logos_token::token::Span;
 use std::alloc::Global;
 
-/// Returns the errors for these faults, in order.
+/// Returns the errors for `faults`, the faults of the source `part`, in order. `clues` are the
+/// clues about these faults.
 pub(crate) fn errors_of(
     alloc: Global,
     part: Part<'_, '_>,
@@ -35,7 +36,8 @@ pub(crate) fn errors_of(
     Ok(errors)
 }
 
-/// Adds the error for the fault with this number, if the fault has its own error.
+/// Appends to `errors` the error for `fault`, the fault at the index `number` of `faults`, if it
+/// has its own error. `next` is the state before the fault.
 fn add_fault(
     part: Part<'_, '_>,
     faults: &[SpannedError],
@@ -57,7 +59,7 @@ fn add_fault(
     Ok(())
 }
 
-/// Returns whether the next fault has its own error, given the faults before it. The first fault
+/// Returns whether `fault`, before which are the faults `front`, has its own error. The first fault
 /// has one, so that no source is refused without an error.
 fn has_error(front: &[SpannedError], next: NextFaults<'_>, fault: &SpannedError) -> bool
     ensures { result ≡ has_error (faults_of front.now) (next_value next.entry)
@@ -69,7 +71,8 @@ fn has_error(front: &[SpannedError], next: NextFaults<'_>, fault: &SpannedError)
     begins_error(next, fault) & (seen_in(&[], front, fault.code) < MOST)
 }
 
-/// Returns the error for the fault with this number.
+/// Returns the error for `fault`, the fault at the index `number` of `faults`. `next` is the state
+/// before the fault.
 fn error_of(
     alloc: Global,
     part: Part<'_, '_>,
@@ -104,7 +107,7 @@ fn error_of(
     })
 }
 
-/// Returns the faults from the one with the number `number` to the last.
+/// Returns the faults from the index `number` to the last, or none if there are fewer faults.
 fn rest_from(faults: &[SpannedError], number: usize) -> &[SpannedError] {
     match faults.get(number..) {
         Some(rest) => rest,
@@ -112,8 +115,9 @@ fn rest_from(faults: &[SpannedError], number: usize) -> &[SpannedError] {
     }
 }
 
-/// Returns the number of faults with this code, from the one with the number `number` to the last.
-/// Returns 0 unless the faults before it include as many with this code as are shown.
+/// Returns the number of faults with the code `code` from the index `number` to the last. Returns 0
+/// if there are fewer than `number` faults, or fewer than 50 faults before that index have the
+/// code.
 fn left_out(faults: &[SpannedError], number: usize, code: FaultCode) -> usize {
     let Some(front) = faults.get(..number) else {
         return 0;
@@ -129,7 +133,7 @@ fn left_out(faults: &[SpannedError], number: usize, code: FaultCode) -> usize {
     count_in(listing, code)
 }
 
-/// Returns the span of the carets of a fault, if that is not its whole span.
+/// Returns the span of the carets of a fault, or `None` if that is the whole span of the fault.
 fn carets_of(part: Part<'_, '_>, fault: &SpannedError) -> Option<Span> {
     let carets = caret_span(part, fault);
     if (carets.from == fault.span.from) & (carets.to == fault.span.to) {

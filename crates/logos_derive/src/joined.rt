@@ -1,4 +1,4 @@
-//! The faults that belong to an earlier error: its notes, and the other members of a set of
+//! The faults that are shown with an earlier error: its notes, and the other members of its set of
 //! ambiguous leaves. Called by `errors`.
 
 use crate::diagnostic::{Label, add_label, add_other};
@@ -6,7 +6,8 @@ use logos_report::{MOST, Member, NextFaults, begins_error, first_line};
 use logos_token::error::{Memory, SpannedError};
 use std::alloc::Global;
 
-/// Returns the leading faults that belong to the error before them.
+/// Returns the faults at the beginning of `faults` with which no error begins, so that they belong
+/// to the error before them. `first` is the state before the first of `faults`.
 pub(crate) fn joined_to<'f>(
     faults: &'f [SpannedError],
     first: NextFaults<'_>,
@@ -22,8 +23,9 @@ pub(crate) fn joined_to<'f>(
     faults
 }
 
-/// Returns the further spans of an error: its second one, and those of `joined`, the faults that
-/// belong to the error, but at most 50 of these.
+/// Returns the further spans of the error for `fault`: the second span of the fault, if it has one,
+/// and the spans of `joined`, the faults that belong to the error, but of at most 50 of these.
+/// `first` is the state before the first of `joined`.
 pub(crate) fn labels_of(
     alloc: Global,
     fault: &SpannedError,
@@ -40,8 +42,9 @@ pub(crate) fn labels_of(
     Ok(labels)
 }
 
-/// Adds the span of a fault that belongs to an error. Its label is the name of its leaf if it is a
-/// member of a set, otherwise its message.
+/// Appends to `labels` the span of a fault that belongs to an error. The label is the name of its
+/// leaf if `member` is the fault as a member of a set of ambiguous leaves, otherwise the first line
+/// of its message.
 fn add_joined(
     fault: &SpannedError,
     member: Option<Member<'_>>,

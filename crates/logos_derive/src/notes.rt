@@ -1,29 +1,33 @@
-//! The lines under an error. Called by `errors`.
+//! The lines under an error: the other lines of its message, the clues and the help. Called by
+//! `errors`.
 
 use crate::diagnostic::{Note, add_help, add_note};
 use logos_report::{MOST, Member, Part, Start, put_in};
 use logos_token::error::{Memory, SpannedError};
 use std::alloc::Global;
 
-/// An error, with the clues about it.
+/// An error, with the clues about its fault.
 #[derive(Clone, Copy)]
 pub(crate) struct KnownError<'f, 'p, 't> {
     pub(crate) part: Part<'p, 't>,
     /// The fault with which the error begins.
     pub(crate) fault: &'f SpannedError,
-    /// The fault as a member of its set of ambiguous leaves, if there is a clue about the set.
+    /// The fault as a member of its set of ambiguous leaves, or `None` if no clue is about such a
+    /// set.
     pub(crate) member: Option<Member<'f>>,
-    /// The patterns that explain the fault.
+    /// The patterns that explain the fault: for `NoUniversalStart` those that can examine the bytes
+    /// before their start, otherwise none.
     pub(crate) starts: &'f [Start],
     /// The help for the fault, if there is one.
     pub(crate) help: Option<&'static str>,
-    /// The number of faults with the code of the error that are left out, if it is the last error
-    /// with this code.
+    /// The number of later faults with the code of the error that are left out, or 0 if another
+    /// error with this code may follow.
     pub(crate) left_out: usize,
 }
 
-/// Returns the lines under an error: the rest of its message, the clues about it, the help, and the
-/// number of faults with its code that are left out.
+/// Returns the lines under an error, in this order: the subpattern that shifts its byte, the rest
+/// of its message, its patterns, its help, and the number of faults with its code that are left
+/// out.
 pub(crate) fn notes_of(alloc: Global, error: KnownError<'_, '_, '_>) -> Result<Vec<Note>, Memory> {
     let mut notes = Vec::new(alloc);
     add_put_in(alloc, error, &mut notes)?;
@@ -34,7 +38,8 @@ pub(crate) fn notes_of(alloc: Global, error: KnownError<'_, '_, '_>) -> Result<V
     Ok(notes)
 }
 
-/// Adds the name of the subpattern whose substitution shifts the byte of a fault, if there is one.
+/// Appends to `notes` the name of the first subpattern that is substituted before the byte of the
+/// fault, if there is one.
 fn add_put_in(
     alloc: Global,
     error: KnownError<'_, '_, '_>,
@@ -48,8 +53,9 @@ fn add_put_in(
     add_note(text.as_str(), notes)
 }
 
-/// Adds the lines of a message after its first one. Those of a set of ambiguous leaves name its
-/// other members, which are labels.
+/// Appends to `notes` the lines of the message of an error after its first line. For a member of a
+/// set of ambiguous leaves, appends the note of the set instead, because labels name the other
+/// members.
 fn add_message(error: KnownError<'_, '_, '_>, notes: &mut Vec<Note>) -> Result<(), Memory> {
     match error.member {
         Some(member) => add_note(member.meeting.note.as_str(), notes),
@@ -57,7 +63,7 @@ fn add_message(error: KnownError<'_, '_, '_>, notes: &mut Vec<Note>) -> Result<(
     }
 }
 
-/// Adds the lines of a message after its first one.
+/// Appends to `notes` the lines of `message` after its first line.
 fn add_other_lines(message: &str, notes: &mut Vec<Note>) -> Result<(), Memory> {
     for line in message.split('\n').skip(1) {
         add_other_line(line, notes)?;
@@ -65,7 +71,7 @@ fn add_other_lines(message: &str, notes: &mut Vec<Note>) -> Result<(), Memory> {
     Ok(())
 }
 
-/// Adds a line of a message, without its leading blanks, unless it is empty.
+/// Appends a line of a message to `notes`, without its leading blanks, unless it is empty.
 fn add_other_line(line: &str, notes: &mut Vec<Note>) -> Result<(), Memory> {
     if line.is_empty() {
         return Ok(());
@@ -73,7 +79,8 @@ fn add_other_line(line: &str, notes: &mut Vec<Note>) -> Result<(), Memory> {
     add_note(line.trim_start(), notes)
 }
 
-/// Adds the patterns that can examine the bytes before their start, but at most 50.
+/// Appends to `notes` a line for each of `starts`, the patterns that can examine the bytes before
+/// their start, but for at most 50.
 fn add_starts(starts: &[Start], notes: &mut Vec<Note>) -> Result<(), Memory> {
     for start in starts.iter().take(MOST) {
         add_note(start.name.as_str(), notes)?;
@@ -81,7 +88,7 @@ fn add_starts(starts: &[Start], notes: &mut Vec<Note>) -> Result<(), Memory> {
     Ok(())
 }
 
-/// Adds the help for an error, if there is one.
+/// Appends the help for an error to `notes`, if there is one.
 fn add_advice(error: KnownError<'_, '_, '_>, notes: &mut Vec<Note>) -> Result<(), Memory> {
     match error.help {
         Some(help) => add_help(help, notes),
@@ -89,7 +96,8 @@ fn add_advice(error: KnownError<'_, '_, '_>, notes: &mut Vec<Note>) -> Result<()
     }
 }
 
-/// Adds the number of faults with the code of an error that are left out, if there are any.
+/// Appends to `notes` the line that `count` faults with the code of the error are not shown, unless
+/// `count` is 0.
 fn add_left_out(alloc: Global, count: usize, notes: &mut Vec<Note>) -> Result<(), Memory> {
     if count == 0 {
         return Ok(());

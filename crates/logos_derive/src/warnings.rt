@@ -1,4 +1,4 @@
-//! Warnings as diagnostics. Called by `derivation`.
+//! Turns warnings into diagnostics. Called by `derivation`.
 
 ghost use Rattle.std.specs.Prelude.{IfOk};
 ghost use Rattle.logos_derive.specs.Views.{All, IsWarning};
@@ -8,7 +8,7 @@ use logos_report::{Warning, first_of};
 use logos_token::error::Memory;
 use std::alloc::Global;
 
-/// Returns these warnings as diagnostics, in order, but at most 50.
+/// Returns the first 50 of `warned` as diagnostics, in order.
 pub(crate) fn warnings_of(alloc: Global, warned: &[Warning]) -> Result<Vec<Diagnostic>, Memory>
     ensures { IfOk result (λ diagnostics. All IsWarning diagnostics.items) }
 {
@@ -37,14 +37,14 @@ fn diagnostic_of(alloc: Global, warning: &Warning) -> Result<Diagnostic, Memory>
     })
 }
 
-/// Returns the second span of a warning, if it has one.
+/// Returns the second span of a warning with its label, or no span if it has none.
 fn labels_of(alloc: Global, warning: &Warning) -> Result<Vec<Label>, Memory> {
     let mut labels = Vec::new(alloc);
     add_other(warning.also, &mut labels)?;
     Ok(labels)
 }
 
-/// Returns the note and the help of a warning, if it has them.
+/// Returns the note and then the help of a warning, as far as it has them.
 fn notes_of(alloc: Global, warning: &Warning) -> Result<Vec<Note>, Memory> {
     let mut notes = Vec::new(alloc);
     if let Some(note) = &warning.note {

@@ -28,29 +28,34 @@ use logos_token::token::{Span, Tokens, tokenize};
 use logos_warnings::Origin;
 use std::alloc::{AllocError, Global};
 
-/// A file with the derive of its lexers expanded.
+/// The text of a file with the derive of its lexers expanded, and the text of its warnings.
 #[derive(Drop)]
 pub struct Expansion {
+    /// The text of the file, in UTF-8.
     pub bytes: Vec<u8>,
-    /// The text of the warnings.
+    /// The text of the warnings, in UTF-8, and in the format that was requested for messages.
     pub warnings: Vec<u8>,
 }
 
-/// The replacements of the enums of a file, and the faults of those that are refused.
+/// The replacements of the accepted enums of a file, and the faults of its refused enums.
 #[derive(Drop)]
 struct Gathered {
     parts: Vec<Replacement>,
     refused: Vec<Refused>,
 }
 
-/// Returns a file in which each enum that derives `Logos` is replaced by the enum without the
-/// derive and its attributes, followed by the implementation. All other text stays unchanged.
+/// Returns the file `source` with each enum that derives `Logos` replaced: by the enum without the
+/// derive and its attributes, followed by the implementation in the shape `shape`. If there is such
+/// an enum, a first line states that the file is generated, unless `#!` or U+FEFF must remain
+/// first, and the documentation and the attributes of the file itself become plain comments where
+/// they can. All other text stays unchanged. `showing` is the form of the messages.
 ///
 /// # Errors
 ///
-/// Returns `Refused` with the warnings of the file and all faults of these enums, in the order of
-/// the file, or with the one fault of a file that cannot be read into tokens. If warnings are
-/// denied, a file without faults is refused with its warnings. Returns `Memory` if memory runs out.
+/// Returns `Refused` with the text of the file's warnings and of all faults of these enums, in the
+/// order of the file, or of the one fault of a file that cannot be read into tokens. Also returns
+/// `Refused`, with the text of the warnings, for a file without faults whose warnings are denied.
+/// Returns `Memory` if memory runs out.
 pub fn expand<'w>(
     source: &Source<'_>,
     shape: Shape,
@@ -66,7 +71,8 @@ pub fn expand<'w>(
     expand_enums(source, shape, showing, &file)
 }
 
-/// Returns the refusal of a file that cannot be read into tokens.
+/// Returns the failure for a file that cannot be read into tokens, because of `refusal`. It is
+/// `Memory` if memory runs out.
 fn refused_whole<'w>(source: &Source<'_>, showing: Showing, refusal: Refusal) -> Failure<'w>
     requires { Refuses (IsUnreadable source.now.text) refusal }
     ensures { (shape : Shape) → FailsFor showing.format showing.denies shape source.now result }
@@ -79,7 +85,8 @@ fn refused_whole<'w>(source: &Source<'_>, showing: Showing, refusal: Refusal) ->
     }
 }
 
-/// Returns a file that was read into tokens, with its enums expanded.
+/// Returns the expansion of the file `source`, which was read into `file`, or the failure with its
+/// faults or its denied warnings.
 fn expand_enums<'w>(
     source: &Source<'_>,
     shape: Shape,
@@ -109,14 +116,15 @@ fn expand_enums<'w>(
     Err(refused_file(source, showing, &gathered.refused, &warned))
 }
 
-/// Returns whether a file may import `Logos`: whether it contains a path that could be in such an
-/// import.
+/// Returns whether a file may import `Logos`: whether its text contains a path that such an import
+/// could have.
 fn has_import(source: &Source<'_>) -> bool {
     let text = source.text();
     text.contains("::Logos") | text.contains("logos::{") | text.contains("::*")
 }
 
-/// Returns a file that has these tokens with parts replaced, unless its warnings are denied.
+/// Returns the expansion of a file without faults, in which `parts` are replaced, or the failure
+/// with its warnings `warned` if they are denied. `tokens` are those of the file.
 fn accepted_file<'w>(
     source: &Source<'_>,
     shape: Shape,
@@ -141,7 +149,8 @@ fn accepted_file<'w>(
     })
 }
 
-/// Returns the refusal of a file for its warnings, which are denied.
+/// Returns the failure for a file whose warnings `warned` are denied. It is `Memory` if memory runs
+/// out.
 fn denied_file<'w>(source: &Source<'_>, showing: Showing, warned: &[Warning]) -> Failure<'w>
     requires denies { IsTrue showing.denies }
     requires some { 0 < length warned.now }
@@ -155,8 +164,9 @@ fn denied_file<'w>(source: &Source<'_>, showing: Showing, warned: &[Warning]) ->
     }
 }
 
-/// Returns a file that has these tokens with parts replaced. If there are any, its first line
-/// states that it is generated, and its own documentation and attributes are plain comments.
+/// Returns the text of a file, which has the tokens `tokens`, with `parts` replaced. If there are
+/// any, its first line states that it is generated, where a line can be inserted, and its own
+/// documentation and attributes are plain comments, where they can be.
 fn expanded_file(
     alloc: Global,
     source: &Source<'_>,
@@ -176,9 +186,9 @@ fn expanded_file(
     with_head(alloc, source.path(), shape, &body)
 }
 
-/// Returns a file with plain comments in place of its own documentation and attributes, if it
-/// begins with them and can have such comments; otherwise unchanged. `tokens` are those of the file
-/// before parts of it were replaced.
+/// Returns the file with the text `bytes`, with plain comments in place of its own documentation
+/// and attributes. Returns `bytes` if the file does not begin with such attributes or cannot have
+/// such comments. `tokens` are those of the file before parts of it were replaced.
 fn plain_file(alloc: Global, bytes: Vec<u8>, tokens: Tokens<'_, '_>) -> Result<Vec<u8>, Memory>
     ensures { IfOk result (λ body. IsWithoutInner bytes.items body.items) }
 {
@@ -191,8 +201,8 @@ fn plain_file(alloc: Global, bytes: Vec<u8>, tokens: Tokens<'_, '_>) -> Result<V
     }
 }
 
-/// Returns a file with plain comments for the documentation and the attributes of the file itself,
-/// or `None` if it cannot have them.
+/// Returns the text of a file with plain comments in place of its own documentation and attributes,
+/// or `None` if the file cannot have such comments or is not UTF-8.
 fn plain_bytes(alloc: Global, bytes: &[u8]) -> Result<Option<Vec<u8>>, Memory>
     ensures { IfOk result (λ found. IfSome found (λ body. IsPlainly bytes.now body.items)) }
 {
@@ -205,8 +215,8 @@ fn plain_bytes(alloc: Global, bytes: &[u8]) -> Result<Option<Vec<u8>>, Memory>
     }
 }
 
-/// Returns the replacements of these enums of a file, and the faults of those that are refused.
-/// Adds their warnings.
+/// Returns the replacements of the accepted enums among `found`, and the faults of the refused
+/// ones. Appends the warnings for all enums of `found` to `warned`. `text` is the text of the file.
 fn gather(
     text: &str,
     site: Site<'_, '_>,
@@ -232,7 +242,8 @@ fn gather(
     Ok(gathered)
 }
 
-/// Adds the replacement or the faults of an enum, if it derives `Logos`, and its warnings.
+/// Adds the replacement or the faults of the enum `one` to `gathered`, if the enum derives `Logos`,
+/// and appends the warnings for it to `warned`. `text` is the text of the file.
 fn gather_enum(
     text: &str,
     site: Site<'_, '_>,
@@ -275,8 +286,8 @@ fn gather_enum(
     }
 }
 
-/// Returns the clues about a refused enum, and adds all its warnings. Its text begins at an offset
-/// of the file.
+/// Returns the clues about a refused enum, and appends all its warnings to `warned`. `text` spells
+/// the enum, and begins at the byte offset `offset` of the file.
 fn clues_of(text: &str, offset: usize, warned: &mut Vec<Warning>) -> Result<Clues, Memory>
     ensures sets { IfOk result (λ clues. HasSets text.now (sizes_of clues)) }
     ensures warns { IfOk result (λ clues. AddsSome warned.old.items warned.new.items) }
@@ -286,7 +297,8 @@ fn clues_of(text: &str, offset: usize, warned: &mut Vec<Warning>) -> Result<Clue
     Ok(clues)
 }
 
-/// Appends the faults of a part of a file, with the clues and the helps for them.
+/// Appends the faults of `refusal` to `refused`, with the clues and the helps for them. `part` is
+/// the part of the file that has the faults.
 fn push_refusal(
     refused: &mut Vec<Refused>,
     part: Part<'_, '_>,
@@ -310,8 +322,9 @@ fn push_refusal(
     }
 }
 
-/// Returns an enum without the derive and its attributes, and the implementation. Adds the warnings
-/// for the enum and for its lexer.
+/// Returns the enum `source` without the derive and its attributes, followed by its implementation,
+/// or the refusal of the enum. Appends the warnings for an accepted enum and for its lexer to
+/// `warned`.
 fn expanded(source: &str, site: Site<'_, '_>, warned: &mut Vec<Warning>) -> Result<String, Refusal>
     ensures done { IfOk result
         (λ text. IsExpansion site.entry.shape source.now (string_bytes text)) }
@@ -329,8 +342,8 @@ fn expanded(source: &str, site: Site<'_, '_>, warned: &mut Vec<Warning>) -> Resu
     }
 }
 
-/// Returns an enum without the derive and its attributes, and the generated code of its lexer. Adds
-/// the warnings for both.
+/// Returns the enum `source` without the derive and its attributes, followed by the implementation
+/// for which `made` was generated. Appends the warnings for the enum and for its lexer to `warned`.
 fn expansion_by(
     source: &str,
     site: Site<'_, '_>,
@@ -350,7 +363,8 @@ fn expansion_by(
     }
 }
 
-/// Returns the expansion of an enum with these tokens, like `expansion_by`.
+/// Returns the expansion of an enum with the tokens `tokens`, and appends its warnings to `warned`,
+/// like `expansion_by`.
 fn expansion_with(
     source: &str,
     tokens: Tokens<'_, '_>,
@@ -375,7 +389,8 @@ fn expansion_with(
     printed_with(alloc, source, left.run(), site, made)
 }
 
-/// Returns the refusal of a file, with the text of all its faults.
+/// Returns the failure for a file with the faults `refused`: the text of the faults, after that of
+/// the warnings `warned`. It is `Memory` if memory runs out.
 fn refused_file<'w>(
     source: &Source<'_>,
     showing: Showing,
@@ -391,7 +406,8 @@ fn refused_file<'w>(
     }
 }
 
-/// Returns the text of all faults of a file, after its warnings.
+/// Returns the text of the faults `refused` of a file, after that of its warnings `warned`, in the
+/// requested format.
 fn faults_text(
     source: &Source<'_>,
     showing: Showing,
@@ -410,7 +426,8 @@ fn faults_text(
     }
 }
 
-/// Returns a line of JSON for each warning and each fault of a file, but at most 50 of one code.
+/// Returns a line of JSON for each of the warnings `warned` and then for each fault of `refused`.
+/// At most the first 50 warnings have a line, and at most 50 faults of one code.
 fn fault_lines(
     alloc: Global,
     source: &Source<'_>,
@@ -424,9 +441,9 @@ fn fault_lines(
     Ok(lines)
 }
 
-/// Returns the text of all faults of a file, in order, with their number, after its warnings. For
-/// each, the text has a line with the name of its code and the first line of its message, and one
-/// with its location in the file.
+/// Returns the report of the warnings `warned` of a file, of the faults `refused`, in order, and of
+/// their number. For each fault, the report has a line with the name of its code and the first line
+/// of its message, and one with its location in the file.
 fn refusal_text(
     source: &Source<'_>,
     showing: Showing,
@@ -443,7 +460,8 @@ fn refusal_text(
     page.finish()
 }
 
-/// Returns the number of error reports for these faults, saturating at the greatest number.
+/// Returns the number of errors that are reported for the faults `refused`, or the greatest number
+/// if there are more.
 fn count_refused(refused: &[Refused]) -> usize
     ensures { result ≡ min (errors_in refused.now) (2 ^ 64 - 1) }
 {

@@ -1,4 +1,4 @@
-//! The replacement of an enum: the enum without the derive and its attributes, and the
+//! Prints the replacement of an enum: the enum without the derive and its attributes, and the
 //! implementation. Called by `expansion`.
 
 ghost use Rattle.std.specs.Prelude.{◌≡◌, ◌++◌, true, IfOk, OnOk, string_bytes};
@@ -13,12 +13,12 @@ use logos_tables::{Shape, lexer_text};
 use logos_text::{Call, Sink};
 use std::alloc::Global;
 
-/// The location of an enum, and the shape of its lexer.
+/// The location of an enum in a file, with the shape of its lexer.
 #[derive(Clone, Copy)]
 pub(crate) struct Site<'f, 't> {
     /// The shape of the lexer of the enum.
     pub(crate) shape: Shape,
-    /// The file.
+    /// The file that contains the enum.
     pub(crate) file: &'f Source<'t>,
     /// The byte offset of the enum in the file.
     pub(crate) offset: usize,
@@ -29,8 +29,8 @@ pub(crate) struct Site<'f, 't> {
 /// The import of `Logos`, marked as used.
 const IMPORT: &str = "#[allow(unused_imports)]\nuse self::Logos as _;\n";
 
-/// The attributes of an implementation: they disable lints of rustc and clippy that generated code
-/// violates, and rustfmt.
+/// The attributes of an implementation. They disable rustfmt, and the lints of rustc and clippy
+/// that generated code violates.
 const ATTRIBUTES: &str = "\
 #[allow(dead_code, deprecated, unused_assignments, unused_imports)]
 #[allow(unused_parens, unused_variables)]
@@ -41,11 +41,11 @@ const ATTRIBUTES: &str = "\
 #[rustfmt::skip]
 ";
 
-/// The attribute that excludes an enum from rustfmt, on a line.
+/// The line with the attribute that excludes an enum from rustfmt.
 const GUARD: &str = "#[rustfmt::skip]\n";
 
-/// Returns the text of the remaining tokens of a source, and after LF the generated code of a lexer
-/// with attributes, laid out.
+/// Returns the replacement of an enum: the text of `left`, the tokens of `source` that remain, and
+/// after LF the implementation for which `made` was generated, laid out.
 pub(crate) fn printed_with(
     alloc: Global,
     source: &str,
@@ -66,7 +66,8 @@ pub(crate) fn printed_with(
     Ok(text)
 }
 
-/// Returns the text of the remaining tokens, after `#[rustfmt::skip]` if rustfmt would change it.
+/// Returns the text of `left`, the tokens of `source` that remain, after `#[rustfmt::skip]` if
+/// rustfmt would otherwise change it.
 fn guarded(
     alloc: Global,
     source: &str,
@@ -81,8 +82,8 @@ fn guarded(
     Ok(text)
 }
 
-/// Returns the line that excludes an enum from rustfmt, with the blanks before the enum, or an
-/// empty text if rustfmt would not change the enum.
+/// Returns the line that excludes the enum `written` from rustfmt, followed by the blanks before
+/// the enum in the file, or an empty text if rustfmt would not change the enum.
 fn guard_of(alloc: Global, written: &str, site: Site<'_, '_>) -> Result<String, Memory>
     ensures { IfOk result (λ guard. IsGuard (string_bytes guard)) }
 {
@@ -93,7 +94,8 @@ fn guard_of(alloc: Global, written: &str, site: Site<'_, '_>) -> Result<String, 
     Ok(guard)
 }
 
-/// Appends the line that excludes an enum from rustfmt, and the blanks before the enum.
+/// Appends to `text` the line that excludes an enum from rustfmt, followed by `margin`, the blanks
+/// before the enum.
 fn push_guard(text: &mut String, margin: &str) -> Result<(), Memory>
     ensures { OnOk result (string_bytes text.new
         ≡ string_bytes text.old ++ (guard_text ++ margin.now)) }
@@ -103,8 +105,8 @@ fn push_guard(text: &mut String, margin: &str) -> Result<(), Memory>
     Ok(())
 }
 
-/// Returns whether a comma precedes a closing parenthesis, for example after the last entry of a
-/// `derive` was removed.
+/// Returns whether `bytes` contain a comma and, perhaps after white space, a closing parenthesis,
+/// as they do if the last entry of a `derive` was removed.
 fn has_last_comma(bytes: &[u8]) -> bool {
     let mut last = b' ';
     for byte in bytes {
@@ -116,7 +118,7 @@ fn has_last_comma(bytes: &[u8]) -> bool {
     false
 }
 
-/// Returns the last byte that is not white space: `byte`, or `last` if `byte` is white space.
+/// Returns `byte`, or `last` if `byte` is white space.
 fn last_of(last: u8, byte: u8) -> u8 {
     if byte.is_ascii_whitespace() {
         last
@@ -125,7 +127,8 @@ fn last_of(last: u8, byte: u8) -> u8 {
     }
 }
 
-/// Returns the blanks before an offset of a text, if nothing else precedes the offset in its line.
+/// Returns the blanks before the byte offset `offset` of a text, back to the beginning of the line.
+/// Returns an empty text if anything else is between them, or if no character begins at the offset.
 fn margin_at(text: &str, offset: usize) -> &str
     ensures { are_blanks result.now ≡ true }
 {
@@ -140,7 +143,7 @@ fn margin_at(text: &str, offset: usize) -> &str
     }
 }
 
-/// Returns the text after the last line end of a text.
+/// Returns the text after the last LF of a text, or the whole text if it has no LF.
 fn last_line(text: &str) -> &str {
     match text.rsplit_once('\n') {
         Some((_, line)) => line,
@@ -148,7 +151,7 @@ fn last_line(text: &str) -> &str {
     }
 }
 
-/// Returns whether all these bytes are blanks: spaces and tabs.
+/// Returns whether all of `bytes` are spaces or tabs.
 fn are_blanks(bytes: &[u8]) -> bool
     ensures { result ≡ are_blanks bytes.now }
 {
@@ -160,8 +163,8 @@ fn are_blanks(bytes: &[u8]) -> bool
     true
 }
 
-/// Returns a text that ends with a lexer, laid out, with a comment at each callback that names its
-/// line in the file.
+/// Returns the text `whole`, which ends with that of `lexer`, laid out. Before each call of a
+/// callback, a comment names the line of the callback in the file.
 fn laid_out(alloc: Global, whole: &str, site: Site<'_, '_>, lexer: &Sink) -> Result<String, Memory>
     ensures { IfOk result (λ laid. IsLaidOut whole.now (string_bytes laid)) }
 {
@@ -175,8 +178,9 @@ fn laid_out(alloc: Global, whole: &str, site: Site<'_, '_>, lexer: &Sink) -> Res
     lay_out(alloc, whole, setting)
 }
 
-/// Returns a comment for each callback of a lexer, which names the line of the callback in the
-/// file. The text of the lexer begins at the offset `start`.
+/// Returns a comment for each of `calls`, the calls of callbacks in the text of a lexer. Each
+/// comment names the line of the callback in the file. The text of the lexer begins at the byte
+/// offset `start` of the text that is laid out.
 fn notes_of(
     alloc: Global,
     start: usize,
@@ -194,8 +198,8 @@ fn notes_of(
     Ok(notes)
 }
 
-/// Returns the text of a lexer with its attributes, and perhaps with the import of `Logos` before
-/// it. Both have the conditions of the enum with these tokens.
+/// Returns the text `lexer` with its attributes, after the import of `Logos` if `by_name` is set.
+/// The import and `lexer` each have the `cfg` attributes of the enum with the tokens `left`.
 fn under(alloc: Global, by_name: bool, left: Tokens<'_, '_>, lexer: &str) -> Result<String, Memory>
     ensures { IfOk result (λ text.
         string_bytes text ≡ under by_name (tokens_of left.entry) lexer.now) }
@@ -206,7 +210,8 @@ fn under(alloc: Global, by_name: bool, left: Tokens<'_, '_>, lexer: &str) -> Res
     Ok(text)
 }
 
-/// Appends the import of `Logos`, if it is requested, under the conditions of an enum.
+/// Appends the import of `Logos` to `text`, with the `cfg` attributes of the enum with the tokens
+/// `left`. Appends nothing unless `by_name` is set.
 fn push_import(
     alloc: Global,
     text: &mut String,
@@ -224,7 +229,8 @@ fn push_import(
     Ok(())
 }
 
-/// Appends the generated code of a lexer with its attributes, under the conditions of an enum.
+/// Appends the text `lexer` to `text`, with the attributes of an implementation and the `cfg`
+/// attributes of the enum with the tokens `left`.
 fn push_lexer(
     alloc: Global,
     text: &mut String,

@@ -1,5 +1,5 @@
-//! Collects and formats the warnings of a file. Called by `logos_cli`, `logos_expand` and
-//! `logos_show`.
+//! Collects the warnings of a file, and prints them as a report or as JSON. Used by `logos_cli`,
+//! `logos_expand` and `logos_show`.
 
 ghost use Rattle.std.specs.Prelude.{◌≡◌, ◌++◌, ◌∷◌, All, IfOk, OnOk, [], map, string_bytes};
 ghost use Rattle.logos_file_warnings.specs.Imports.{AddsMissing, AddsMoved, AreOfLexer, AreOfText, AreWarnings, Gains, InReport, IsPassedOver, Shows, ShowsWarnings, denied_line, has_lexer, missing_line, missing_texts, moved, moved_span, reports_missing, shown_of, tokens_of, warnings_texts};
@@ -15,7 +15,7 @@ use logos_token::token::{Span, Tokens};
 use logos_warnings::{Origin, enum_warnings, fixed_warning, passed_over};
 use std::alloc::{AllocError, Global};
 
-/// The settings for showing the faults and warnings of a file.
+/// The form of the messages about the faults and warnings of a file.
 #[derive(Clone, Copy)]
 pub struct Showing {
     /// The allocator for messages.
@@ -23,16 +23,16 @@ pub struct Showing {
     pub format: MessageFormat,
     /// Whether messages have colors.
     pub is_colored: bool,
-    /// Whether a file with warnings is refused.
+    /// Whether a file with warnings is refused, because warnings are denied.
     pub denies: bool,
 }
 
-/// Adds warnings for a text that begins at a byte offset of a file. Their spans are then relative
-/// to the beginning of the file.
+/// Appends `warnings` to `warned`. Their spans are in a text that begins at the byte offset
+/// `offset` of a file, and become spans in the file.
 ///
 /// # Errors
 ///
-/// Returns `Memory` if memory runs out. Then some of the warnings may have been added.
+/// Returns `Memory` if memory runs out. Some of the warnings may then have been appended.
 pub fn add_warnings(
     offset: usize,
     warnings: Vec<Warning>,
@@ -47,7 +47,7 @@ pub fn add_warnings(
     Ok(())
 }
 
-/// Returns a warning with its spans moved by an offset.
+/// Returns `warning` with `offset` added to the offsets of its spans.
 fn moved(warning: Warning, offset: usize) -> Warning
     ensures { result ≡ moved offset warning }
 {
@@ -60,7 +60,7 @@ fn moved(warning: Warning, offset: usize) -> Warning
     moved
 }
 
-/// Returns a span relative to an offset as a span of the file.
+/// Returns `span` with `offset` added to its offsets.
 fn moved_span(span: Span, offset: usize) -> Span
     ensures { result ≡ moved_span offset span }
 {
@@ -70,12 +70,12 @@ fn moved_span(span: Span, offset: usize) -> Span
     }
 }
 
-/// Adds the warnings for the text of an enum that begins at a byte offset of a file. `derives` is
-/// whether the enum derives `Logos`.
+/// Appends to `warned` the warnings for the enum that `text` spells. The text begins at the byte
+/// offset `offset` of a file. `derives` is whether the enum derives `Logos`.
 ///
 /// # Errors
 ///
-/// Returns `Memory` if memory runs out. Then some of the warnings may have been added.
+/// Returns `Memory` if memory runs out. Some of the warnings may then have been appended.
 pub fn add_text(
     text: &str,
     offset: usize,
@@ -90,12 +90,12 @@ pub fn add_text(
     Ok(())
 }
 
-/// Adds the warnings of an enum without faults that derives `Logos`, and of its lexer. The enum has
-/// these tokens, and begins at a byte offset of a file.
+/// Appends to `warned` the warnings for an enum without faults that derives `Logos`, and for its
+/// lexer. The enum has the tokens `tokens`, and begins at the byte offset `offset` of a file.
 ///
 /// # Errors
 ///
-/// Returns `Memory` if memory runs out. Then some of the warnings may have been added.
+/// Returns `Memory` if memory runs out. Some of the warnings may then have been appended.
 pub fn add_accepted(
     tokens: Tokens<'_, '_>,
     offset: usize,
@@ -111,12 +111,12 @@ pub fn add_accepted(
     Ok(())
 }
 
-/// Adds the warnings of entries of `derive` that are passed over in a file with these tokens and
-/// these enums.
+/// Appends to `warned` the warnings about entries of `derive` that are passed over in a file. The
+/// file has the tokens `tokens` and the enums `found`.
 ///
 /// # Errors
 ///
-/// Returns `Memory` if memory runs out. Then some of the warnings may have been added.
+/// Returns `Memory` if memory runs out. Some of the warnings may then have been appended.
 pub fn add_passed(
     tokens: Tokens<'_, '_>,
     found: &[FoundEnum],
@@ -133,12 +133,13 @@ pub fn add_passed(
 
 const MISSING: &str = "no enum in this file derives `Logos`";
 
-/// Adds a warning if none of `found` derives `Logos` and the format is JSON or warnings are denied.
-/// Its span is the beginning of the file.
+/// Appends to `warned` the warning that no enum of a file derives `Logos`, if none of `found` does
+/// and the format is JSON or warnings are denied. The span of the warning is the empty one at the
+/// beginning of the file.
 ///
 /// # Errors
 ///
-/// Returns `Memory` if memory runs out.
+/// Returns `Memory` if memory runs out. `warned` is then unchanged.
 pub fn add_missing(
     showing: Showing,
     found: &[FoundEnum],
@@ -155,7 +156,8 @@ pub fn add_missing(
     Ok(())
 }
 
-/// Returns whether there is a warning about a file without an enum that derives `Logos`.
+/// Returns whether a file without an enum that derives `Logos` has a warning: whether the format is
+/// JSON or warnings are denied.
 fn reports_missing(showing: Showing) -> bool
     ensures { result ≡ reports_missing showing.denies showing.format }
 {
@@ -165,7 +167,7 @@ fn reports_missing(showing: Showing) -> bool
     }
 }
 
-/// Returns whether one of these enums derives `Logos`.
+/// Returns whether one of `found` derives `Logos`.
 pub fn has_lexer(found: &[FoundEnum]) -> bool
     ensures { result ≡ has_lexer found.now }
 {
@@ -177,7 +179,7 @@ pub fn has_lexer(found: &[FoundEnum]) -> bool
     false
 }
 
-/// Returns the spans of the enums that derive `Logos`.
+/// Returns the spans in the file of those of `found` that derive `Logos`, in order.
 fn spans_of(alloc: Global, found: &[FoundEnum]) -> Result<Vec<Span>, AllocError> {
     let mut spans = Vec::new(alloc);
     for one in found {
@@ -188,15 +190,17 @@ fn spans_of(alloc: Global, found: &[FoundEnum]) -> Result<Vec<Span>, AllocError>
     Ok(spans)
 }
 
-/// Appends the warnings of a file.
+/// Appends the report of the warnings `warned` of the file `source` to `page`: of the first 50, and
+/// the number of the others.
 pub fn push_warned(page: &mut Page, source: &Source<'_>, warned: &[Warning])
     ensures { Shows (warnings_texts page.old.is_colored source.now 0 warned.now) page.old page.new }
 {
     push_warnings(page, Part { source, offset: 0 }, warned);
 }
 
-/// Returns the text of the warnings of a file. If `is_missing` is set, none of its enums derives
-/// `Logos`, and a report has a line about that.
+/// Returns the text of the warnings `warned` of the file `source`, in the format of `showing`. If
+/// `is_missing` is set, which means that no enum of the file derives `Logos`, a report has a line
+/// about that; JSON has none.
 ///
 /// # Errors
 ///
@@ -219,8 +223,8 @@ pub fn warning_text(
     }
 }
 
-/// Returns the report of the warnings of a file. `is_missing` is whether none of its enums derives
-/// `Logos`, which is a line of the report.
+/// Returns the report of the warnings `warned` of the file `source`. If `is_missing` is set, it
+/// ends with a line which states that no enum of the file derives `Logos`.
 fn warning_report(
     source: &Source<'_>,
     showing: Showing,
@@ -237,7 +241,8 @@ fn warning_report(
     page.finish()
 }
 
-/// Appends the line which states that no enum of a file derives `Logos`, if `is_missing` is set.
+/// Appends to `page` the line which states that no enum of the file `source` derives `Logos`, if
+/// `is_missing` is set.
 fn push_missing(page: &mut Page, source: &Source<'_>, is_missing: bool)
     ensures { Shows (missing_texts source.now is_missing) page.old page.new }
 {
@@ -246,7 +251,7 @@ fn push_missing(page: &mut Page, source: &Source<'_>, is_missing: bool)
     }
 }
 
-/// Appends the line which states that no enum of a file derives `Logos`.
+/// Appends to `page` the line which states that no enum of the file `source` derives `Logos`.
 fn push_missing_line(page: &mut Page, source: &Source<'_>)
     ensures { Gains (missing_line source.now) page.old page.new }
 {
@@ -255,7 +260,7 @@ fn push_missing_line(page: &mut Page, source: &Source<'_>)
     page.push(" derives `Logos`\n");
 }
 
-/// Returns a line of JSON for each warning, but for at most 50.
+/// Returns a line of JSON for each of the first 50 of the warnings `warned` of the file `source`.
 ///
 /// # Errors
 ///
@@ -272,7 +277,8 @@ pub fn warning_lines(
     Ok(lines)
 }
 
-/// Returns the text about a file whose warnings are denied.
+/// Returns the text of the warnings `warned` of the file `source`, which are denied. A report ends
+/// with a line which states that.
 ///
 /// # Errors
 ///
@@ -292,7 +298,7 @@ pub fn denial_text(
     }
 }
 
-/// Returns a report of warnings, followed by a line which states that warnings are denied.
+/// Returns `report`, followed by a line which states that warnings are denied.
 fn denied(report: String) -> Result<String, Memory>
     ensures { IfOk result (λ text. string_bytes text ≡ string_bytes report ++ denied_line) }
 {
@@ -301,11 +307,11 @@ fn denied(report: String) -> Result<String, Memory>
     Ok(text)
 }
 
-/// Returns the text that these bytes spell.
+/// Returns `bytes`, the bytes of a message, as a text.
 ///
 /// # Errors
 ///
-/// Returns `Memory` if the bytes are not UTF-8, which those of messages always are.
+/// Returns `Memory` if `bytes` are not UTF-8, which cannot happen with the bytes of a message.
 pub fn text_of(bytes: Vec<u8>) -> Result<String, Memory>
     ensures { IfOk result (λ text. string_bytes text ≡ bytes.items) }
 {

@@ -1,4 +1,4 @@
-//! Collects and formats the warnings of a file. Called by `logos_cli`, `logos_expand` and
+//! Collects and prints the warnings of a file. Used by `logos_cli`, `logos_expand` and
 //! `logos_show`.
 
 #![tactic(auto)]

@@ -9,7 +9,7 @@ use logos_report::{Clues, Helps, Part};
 use logos_token::error::{Errors, Memory, SpannedError};
 use logos_token::token::Span;
 
-/// The helps of this crate, for callers that are generic over `Helps`.
+/// The source of the helps of this crate, for callers that are generic over `Helps`.
 #[derive(Clone, Copy)]
 pub struct FaultHelps;
 
@@ -19,19 +19,20 @@ impl Helps for FaultHelps {
     }
 }
 
-/// Adds to `clues` the help for each of the faults of a part of a file, in order. Reports show it
-/// under the fault.
+/// Appends to the helps of `clues` the help for each of the faults `errors` of a part of a file, in
+/// order: `None` for a fault without a help. A report shows each help under its fault.
 ///
 /// # Errors
 ///
-/// Returns `Memory` if memory runs out. Then some of the helps may have been added.
+/// Returns `Memory` if memory runs out. Some of the helps may then have been appended.
 pub fn add_helps(part: Part<'_, '_>, errors: &Errors, clues: &mut Clues) -> Result<(), Memory>
     ensures { sizes_of clues.new ≡ sizes_of clues.old }
 {
     add_all(part, errors.list(), &mut clues.helps)
 }
 
-/// Adds the help for each of these faults of a part of a file.
+/// Appends the help for each of `faults` to `helps`, in order: `None` for a fault without a help.
+/// `part` is the part of the file that has the faults.
 fn add_all(
     part: Part<'_, '_>,
     faults: &[SpannedError],
@@ -43,8 +44,8 @@ fn add_all(
     Ok(())
 }
 
-/// Returns the text of a part of a file at a span, and the text after the span. Both are empty if
-/// the file has no such span.
+/// Returns the text of a part of a file at `span`, whose offsets are in the part, and the text
+/// after it. Each is empty if the file does not have it.
 fn sight_at<'t>(part: Part<'_, 't>, span: Span) -> Sight<'t> {
     Sight {
         text: part.text_at(span),

@@ -1,5 +1,5 @@
-//! The help for each fault: a sentence for each code, for each kind of pattern fault, and for the
-//! tokens at the fault. The programs and the derive macro add it to the faults that they report.
+//! Chooses the help for a fault: a sentence for each code, each kind of pattern fault, and the
+//! tokens at the fault. Used by the programs and the derive macro.
 
 #![tactic(auto)]
 

@@ -1,5 +1,5 @@
-//! The help for a fault in a pattern, chosen by its kind and by the bytes at it. `docs/FAULTS.md`
-//! has the same words, and `tests/lints/faults.py` compares them. Used by `codes`.
+//! Chooses the help for a fault in a pattern, by its kind and by the bytes at it. `docs/FAULTS.md`
+//! has the same sentences, and `tests/lints/faults.py` compares them. Used by `codes`.
 
 ghost use Rattle.std.specs.Prelude.{◌≡◌};
 ghost use Rattle.logos_help.specs.Patterns.{boundary_help, escape_help, escapes, flag_help, group_help, is_digit, looks_ahead, looks_back, opens_with, pattern_help, refers_back};
@@ -7,7 +7,7 @@ ghost use Rattle.logos_help.specs.Patterns.{boundary_help, escape_help, escapes,
 use crate::sight::{Sight, between_quotes};
 use logos_token::error::{PatternDetail, PatternFront, PatternKind};
 
-/// Returns the help for a text that is not a pattern, chosen by its fault.
+/// Returns the help for a literal whose text is not a pattern. `detail` is the detail of the fault.
 pub(crate) fn help_for_pattern(detail: PatternDetail) -> &'static str
     ensures { result.now ≡ pattern_help detail }
 {
@@ -58,21 +58,22 @@ const WORD_BOUNDARY_FORM: &str = "write `(?-u:\\b)`, with the next character aft
 
 const UNCLOSED: &str = "close it, or write `\\(`, `\\[` or `\\{` for the character";
 
-/// Returns whether a text begins with `(?` and this byte.
+/// Returns whether the first bytes `front` are `(?` and `third`.
 fn opens_with(front: PatternFront, third: u8) -> bool
     ensures { result ≡ opens_with front third }
 {
     (front.first == b'(') & (front.second == b'?') & (front.third == third)
 }
 
-/// Returns whether a text begins with a backslash and this byte.
+/// Returns whether the first bytes `front` are a backslash and `second`.
 fn escapes(front: PatternFront, second: u8) -> bool
     ensures { result ≡ escapes front second }
 {
     (front.first == b'\\') & (front.second == second)
 }
 
-/// Returns the help for a group that does not begin with a flag, chosen by its first bytes.
+/// Returns the help for a group that begins with an unknown flag. The first bytes of the group
+/// decide.
 fn help_for_flag(front: PatternFront) -> &'static str
     ensures { result.now ≡ flag_help front }
 {
@@ -87,7 +88,7 @@ fn help_for_flag(front: PatternFront) -> &'static str
 
 const REFERENCE: &str = "repeat the pattern of the group: there are no backreferences";
 
-/// Returns the help for an escape that does not exist, chosen by its first bytes.
+/// Returns the help for an unknown escape. The first bytes of the escape decide.
 fn help_for_escape(front: PatternFront) -> &'static str
     ensures { result.now ≡ escape_help front }
 {
@@ -106,8 +107,8 @@ fn help_for_escape(front: PatternFront) -> &'static str
     }
 }
 
-/// Returns whether an escape has one or two digits, like one that refers back to a group. Three or
-/// more are the number of a character.
+/// Returns whether an escape is like one that refers back to a group: whether a digit other than
+/// `0` follows the backslash, but not three digits, which are the number of a character.
 fn refers_back(front: PatternFront) -> bool
     ensures { result ≡ refers_back front }
 {
@@ -115,14 +116,15 @@ fn refers_back(front: PatternFront) -> bool
     (front.first == b'\\') & is_number & !(is_digit(front.third) & is_digit(front.fourth))
 }
 
-/// Returns whether a byte is a digit.
+/// Returns whether a byte is an ASCII digit.
 fn is_digit(byte: u8) -> bool
     ensures { result ≡ is_digit byte }
 {
     (b'/' < byte) & (byte < b':')
 }
 
-/// Returns the help for a word boundary at this byte. At the start of a pattern it is not needed.
+/// Returns the help for a word boundary at the byte offset `at` in the pattern. At the beginning of
+/// a pattern the boundary is not needed.
 fn help_for_boundary(at: usize) -> &'static str
     ensures { result.now ≡ boundary_help at }
 {
@@ -133,7 +135,8 @@ fn help_for_boundary(at: usize) -> &'static str
     }
 }
 
-/// Returns the help for a group that is neither plain nor named, chosen by its first bytes.
+/// Returns the help for a group that is neither plain nor named. The first bytes of the group
+/// decide.
 fn help_for_group(front: PatternFront) -> &'static str
     ensures { result.now ≡ group_help front }
 {
@@ -144,22 +147,22 @@ fn help_for_group(front: PatternFront) -> &'static str
     }
 }
 
-/// Returns whether a group is `(?=..)` or `(?!..)`.
+/// Returns whether a group begins with `(?=` or `(?!`.
 fn looks_ahead(front: PatternFront) -> bool
     ensures { result ≡ looks_ahead front }
 {
     opens_with(front, b'=') | opens_with(front, b'!')
 }
 
-/// Returns whether a group is `(?<=..)` or `(?<!..)`.
+/// Returns whether a group begins with `(?<=` or `(?<!`.
 fn looks_back(front: PatternFront) -> bool
     ensures { result ≡ looks_back front }
 {
     opens_with(front, b'<') & ((front.fourth == b'=') | (front.fourth == b'!'))
 }
 
-/// Returns the help for a greedy dot, chosen by the shape of the pattern. None of the recommended
-/// patterns has a greedy dot, unless it also has `allow_greedy`.
+/// Returns the help for a pattern with a greedy dot. The text of the pattern decides. No pattern in
+/// a help has a greedy dot, unless it also has `allow_greedy`.
 pub(crate) fn help_for_dot(sight: Sight<'_>) -> &'static str {
     let pattern = between_quotes(sight.text);
     if is_block_comment(pattern) {
@@ -173,13 +176,14 @@ pub(crate) fn help_for_dot(sight: Sight<'_>) -> &'static str {
     }
 }
 
-/// Returns whether a pattern has the delimiters of a block comment.
+/// Returns whether a pattern probably matches a block comment: whether it begins with `/\` or
+/// `/[*]`, contains `*`, and ends with `/`.
 fn is_block_comment(pattern: &str) -> bool {
     let begins = pattern.starts_with("/\\") | pattern.starts_with("/[*]");
     begins & pattern.contains('*') & pattern.ends_with('/')
 }
 
-/// Returns whether a pattern matches a text, and then any characters up to the end of the line.
+/// Returns whether a pattern matches a text, and after it any characters up to the end of the line.
 fn is_to_line_end(pattern: &str) -> bool {
     if pattern.contains("(?s") {
         return false;
@@ -190,7 +194,7 @@ fn is_to_line_end(pattern: &str) -> bool {
     }
 }
 
-/// Returns a pattern without its trailing line end, if it has one.
+/// Returns a pattern without the `\n` or `\n?` at its end, or the whole pattern if it has neither.
 fn without_line_end(pattern: &str) -> &str {
     let plain = pattern.strip_suffix("?").unwrap_or(pattern);
     match plain.strip_suffix("\\n") {
@@ -199,7 +203,8 @@ fn without_line_end(pattern: &str) -> &str {
     }
 }
 
-/// Returns a pattern without its trailing greedy dot, if it has one.
+/// Returns a pattern without the greedy dot at its end, which is a repetition of any character, or
+/// `None` if it does not end with one.
 fn without_dot(pattern: &str) -> Option<&str> {
     let Some(front) = pattern.strip_suffix("*") else {
         return match pattern.strip_suffix("+") {
@@ -210,7 +215,8 @@ fn without_dot(pattern: &str) -> Option<&str> {
     without_any(front)
 }
 
-/// Returns a pattern without its trailing class of any character, if it has one.
+/// Returns a pattern without the `.`, or the class of all characters except LF, at its end. Returns
+/// `None` if it ends with neither.
 fn without_any(pattern: &str) -> Option<&str> {
     if let Some(front) = pattern.strip_suffix(".") {
         return Some(front);
@@ -221,7 +227,7 @@ fn without_any(pattern: &str) -> Option<&str> {
     pattern.strip_suffix("[^\\\\n]")
 }
 
-/// Returns whether a pattern ends with a character that closes a text.
+/// Returns whether a pattern ends with a character that often closes a text, such as a quote.
 fn is_delimited(pattern: &str) -> bool {
     match pattern.chars().last() {
         Some(last) => "\"'`>)]}%/$".contains(last),

@@ -1,16 +1,17 @@
-//! The text of a source at the span of a fault. Used by `codes`, `patterns` and `sights`.
+//! The text of a source at the span of a fault, and after it. Used by `codes`, `patterns` and
+//! `sights`.
 
-/// The text of a source at a span, and the text after it.
+/// The text of a source at the span of a fault, and the text after it.
 #[derive(Clone, Copy, Debug)]
 pub struct Sight<'t> {
     /// The text that the span covers.
     pub text: &'t str,
-    /// The text after the span.
+    /// The text from the end of the span to the end of the file.
     pub after: &'t str,
 }
 
-/// Returns the text between the quotes of a literal, as it is written. A text that is not a literal
-/// is returned whole.
+/// Returns the text of a literal between its first and its last quote, with its escapes as they are
+/// spelled. Returns a text with fewer than two quotes unchanged.
 pub(crate) fn between_quotes(literal: &str) -> &str {
     let Some(parts) = literal.split_once('"') else {
         return literal;

@@ -1,9 +1,10 @@
-//! The help for a fault, chosen by the text at its span. `docs/FAULTS.md` has the same words, and
-//! `tests/lints/faults.py` compares them. Used by `codes`.
+//! Chooses the help for a fault by the text at its span. `docs/FAULTS.md` has the same sentences,
+//! and `tests/lints/faults.py` compares them. Used by `codes`.
 
 use crate::sight::{Sight, between_quotes};
 
-/// Returns the help for a part of `logos(..)` that is not an option.
+/// Returns the help for an argument of `logos(..)` that is not an option. The text of the argument
+/// decides.
 pub(crate) fn help_for_nested(sight: Sight<'_>) -> &'static str {
     let text = sight.text;
     if text.is_empty() | text.starts_with(',') {
@@ -23,12 +24,13 @@ pub(crate) fn help_for_nested(sight: Sight<'_>) -> &'static str {
     }
 }
 
-/// Returns whether a part of `logos(..)` other than a skip has a colon where `=` belongs.
+/// Returns whether an argument of `logos(..)` probably has a colon instead of `=`: whether it has a
+/// colon, does not have `::`, and does not begin with `skip`.
 fn has_colon(text: &str) -> bool {
     text.contains(':') & !text.contains("::") & !text.starts_with("skip")
 }
 
-/// Returns the help for tokens that are not a literal.
+/// Returns the help for tokens that are not a literal, though a literal is required.
 pub(crate) fn help_for_literal(sight: Sight<'_>) -> &'static str {
     if sight.text.contains("\" | ") {
         "write an attribute for each pattern"
@@ -37,7 +39,7 @@ pub(crate) fn help_for_literal(sight: Sight<'_>) -> &'static str {
     }
 }
 
-/// Returns the help for an unknown argument of a pattern, chosen by the character after its name.
+/// Returns the help for an unknown argument of a pattern. The character after its name decides.
 pub(crate) fn help_for_name(sight: Sight<'_>) -> &'static str {
     if sight.after.starts_with('(') {
         "name a function without calling it, as in `callback = parse`"
@@ -46,7 +48,7 @@ pub(crate) fn help_for_name(sight: Sight<'_>) -> &'static str {
     }
 }
 
-/// Returns the help for an unknown option, chosen by its name.
+/// Returns the help for an unknown option. Its name decides.
 pub(crate) fn help_for_unknown(sight: Sight<'_>) -> &'static str {
     if is_argument(sight.text) {
         "write it in the parentheses of `skip(\"..\", ..)`"
@@ -61,7 +63,7 @@ fn is_argument(name: &str) -> bool {
     is_value | (name == "ignore")
 }
 
-/// Returns the help for an argument without a name.
+/// Returns the help for an argument that must have a name, but has none.
 pub(crate) fn help_for_named(sight: Sight<'_>) -> &'static str {
     let text = sight.text;
     if text.contains('>') {
@@ -73,7 +75,8 @@ pub(crate) fn help_for_named(sight: Sight<'_>) -> &'static str {
     }
 }
 
-/// Returns whether a text begins with the parameters of a closure, which no comma cut in two.
+/// Returns whether a text begins with the parameters of a closure between two bars, so that no
+/// comma has cut them in two.
 fn has_parameters(text: &str) -> bool {
     match text.strip_prefix("|") {
         Some(rest) => rest.contains('|'),
@@ -93,7 +96,8 @@ pub(crate) fn help_for_closure(sight: Sight<'_>) -> &'static str {
     }
 }
 
-/// Returns the help for a closure without a body.
+/// Returns the help for a closure without a body. It depends on whether a comma has ended the
+/// parameters.
 pub(crate) fn help_for_body(sight: Sight<'_>) -> &'static str {
     if sight.text.ends_with('|') {
         "write the body, as in `|lex| lex.slice().len()`"
@@ -102,7 +106,7 @@ pub(crate) fn help_for_body(sight: Sight<'_>) -> &'static str {
     }
 }
 
-/// Returns the help for a pattern that matches the empty text.
+/// Returns the help for a pattern that matches the empty text. The text of the pattern decides.
 pub(crate) fn help_for_empty(sight: Sight<'_>) -> &'static str {
     let pattern = between_quotes(sight.text);
     if pattern.is_empty() {

@@ -1,10 +1,11 @@
-//! The blanks between the lexemes of a line. Called by `state`.
+//! Decides on the blanks between the lexemes of a line. Called by `state`.
 
 use crate::classes::{LexemeClass, Role};
 use logos_token::token::Delimiter;
 
-/// Returns whether a line has a blank between two neighboring lexemes. `has_gap` is whether the
-/// text has a gap between them.
+/// Returns whether a line has a blank between the neighboring lexemes `last` and `next`. `has_gap`
+/// is whether the text has a gap between them. Without a gap, a blank is only inserted after a
+/// comma.
 ///
 /// Punctuation that is not joint to other punctuation keeps its blank, and so do two neighboring
 /// names or literals. Thus the tokens do not change.
@@ -18,19 +19,20 @@ pub(crate) fn is_blank(last: LexemeClass, next: LexemeClass, has_gap: bool) -> b
     !(is_tight_after(last, next) | is_tight_before(last, next))
 }
 
-/// Returns whether a blank is inserted after a comma that has none.
+/// Returns whether a blank is inserted between `last` and `next`, which have no gap between them:
+/// after a comma, except before punctuation or a closing delimiter.
 fn is_after_comma(last: LexemeClass, next: LexemeClass) -> bool {
     matches!(last, LexemeClass::Sign(Role::Comma))
         & !matches!(next, LexemeClass::Sign(_) | LexemeClass::Closing(_))
 }
 
-/// Returns whether a lexeme is punctuation.
+/// Returns whether lexemes of the class `class` are punctuation.
 fn is_sign(class: LexemeClass) -> bool {
     matches!(class, LexemeClass::Sign(_))
 }
 
-/// Returns whether `next` follows without a blank, because of the lexeme before it. A number never
-/// follows a dot directly: the two would be read as a fraction.
+/// Returns whether `next` follows `last` without a blank because of the class of `last`. A number
+/// never follows a dot directly, because the two would be read as a fraction.
 fn is_tight_after(last: LexemeClass, next: LexemeClass) -> bool {
     match last {
         LexemeClass::Opening(Delimiter::Brace) => matches!(
@@ -47,8 +49,8 @@ fn is_tight_after(last: LexemeClass, next: LexemeClass) -> bool {
     }
 }
 
-/// Returns whether `next` follows without a blank, because of its own class. A dot never follows a
-/// number directly: the two would be read as a fraction.
+/// Returns whether `next` follows `last` without a blank because of the class of `next`. A dot
+/// never follows a number directly, because the two would be read as a fraction.
 fn is_tight_before(last: LexemeClass, next: LexemeClass) -> bool {
     match next {
         LexemeClass::Closing(Delimiter::Brace) => false,
@@ -60,7 +62,8 @@ fn is_tight_before(last: LexemeClass, next: LexemeClass) -> bool {
     }
 }
 
-/// Returns whether `(` or `[` belongs to a lexeme of this class.
+/// Returns whether a `(` or `[` after a lexeme of the class `last` belongs to that lexeme, as in a
+/// call.
 fn is_called(last: LexemeClass) -> bool {
     matches!(
         last,
@@ -73,7 +76,8 @@ fn is_called(last: LexemeClass) -> bool {
     )
 }
 
-/// Returns whether punctuation follows a lexeme without a blank.
+/// Returns whether punctuation with the role `role` follows a lexeme of the class `last` without a
+/// blank.
 fn is_tight_sign(last: LexemeClass, role: Role) -> bool {
     match role {
         Role::Comma | Role::Semicolon | Role::Question => true,

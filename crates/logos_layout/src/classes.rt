@@ -1,20 +1,21 @@
-//! The classes of lexemes, which determine the layout around them. Used by `blanks`, `line_breaks`
-//! and `state`.
+//! Classes of lexemes, which determine the layout around them. Used by `blanks`, `line_breaks` and
+//! `state`.
 
 use logos_token::token::{Delimiter, Spacing};
 
-/// The class of a lexeme.
+/// The class of a lexeme, which determines the layout around it.
 #[derive(Clone, Copy, PartialEq, Eq)]
 pub(crate) enum LexemeClass {
     /// No lexeme: the beginning of the text.
     Start,
-    /// A declared name, or one whose first letter is upper case and whose second one is lower case.
+    /// A name that a keyword before it declares, or one with an upper-case first letter and a
+    /// lower-case second letter.
     TypeName,
     /// A keyword that declares a name.
     Declaring,
     /// The keyword `else`.
     Else,
-    /// Another keyword that is followed by an operand, a pattern or a name.
+    /// Any other keyword that an operand, a pattern or a name follows.
     Keyword,
     /// The name of a lifetime or a label, without its apostrophe.
     Lifetime,
@@ -57,9 +58,9 @@ pub(crate) enum Role {
     ClosesTypes,
     /// The `!` after the name of a macro.
     MacroMark,
-    /// A character before an operand, such as the `&` of a reference.
+    /// A character before an operand, such as the `&` of a reference, or a `$`.
     Prefix,
-    /// A `-` or `=` that `>` can follow.
+    /// A `-` or `=` that may begin an arrow: `->` or `=>`.
     Arrow,
     /// Any other character.
     Operator,
@@ -68,13 +69,13 @@ pub(crate) enum Role {
 /// The keywords that declare a name.
 const DECLARING: [&str; 7] = ["enum", "fn", "impl", "struct", "trait", "type", "union"];
 
-/// The other keywords that are followed by an operand, a pattern or a name, except `else`.
+/// The other keywords that an operand, a pattern or a name follows, except `else`.
 const KEYWORDS: [&str; 18] = [
     "as", "break", "const", "dyn", "for", "if", "in", "let", "loop", "match", "move", "mut", "ref",
     "return", "static", "use", "where", "while",
 ];
 
-/// Returns the class of a name after a lexeme of the class `last`.
+/// Returns the class of the name or keyword `name` after a lexeme of the class `last`.
 pub(crate) fn class_of_name(name: &str, last: LexemeClass) -> LexemeClass {
     match last {
         LexemeClass::Sign(Role::Apostrophe) => LexemeClass::Lifetime,
@@ -83,7 +84,7 @@ pub(crate) fn class_of_name(name: &str, last: LexemeClass) -> LexemeClass {
     }
 }
 
-/// Returns the class of a keyword or a name.
+/// Returns the class of the name or keyword `name`, whatever the lexeme before it is.
 fn class_of_word(name: &str) -> LexemeClass {
     if name == "else" {
         return LexemeClass::Else;
@@ -100,7 +101,7 @@ fn class_of_word(name: &str) -> LexemeClass {
     LexemeClass::Name
 }
 
-/// Returns whether a name is one of these words.
+/// Returns whether `name` is one of `words`.
 fn is_in(name: &str, words: &[&str]) -> bool {
     for word in words {
         if name == *word {
@@ -110,7 +111,8 @@ fn is_in(name: &str, words: &[&str]) -> bool {
     false
 }
 
-/// Returns whether a name looks like the name of a type. It can begin with `_`.
+/// Returns whether a name looks like that of a type: whether it begins with an upper-case letter
+/// and a lower-case one, perhaps after one `_`.
 fn is_type_name(name: &[u8]) -> bool {
     match name {
         [b'_', first, second, ..] => first.is_ascii_uppercase() & second.is_ascii_lowercase(),
@@ -119,16 +121,16 @@ fn is_type_name(name: &[u8]) -> bool {
     }
 }
 
-/// A character of punctuation, and its context.
+/// A character of punctuation, with its context.
 #[derive(Clone, Copy)]
 pub(crate) struct Punctuation {
     /// The character.
     pub(crate) character: u8,
     /// Whether more punctuation follows directly.
     pub(crate) spacing: Spacing,
-    /// The last lexeme.
+    /// The class of the lexeme before the character.
     pub(crate) last: LexemeClass,
-    /// Whether the last lexeme is punctuation without a gap after it.
+    /// Whether no gap separates the character from the lexeme before it.
     pub(crate) is_second: bool,
     /// Whether a list of types is open.
     pub(crate) has_types: bool,
@@ -155,7 +157,8 @@ pub(crate) fn role_of(sign: Punctuation) -> Role {
     }
 }
 
-/// Returns the role of a `:`. The second of two ends the `::` of a path.
+/// Returns the role of a `:` after a lexeme of the class `last`. The second of two ends the `::` of
+/// a path.
 fn colon_role(last: LexemeClass) -> Role {
     match last {
         LexemeClass::Sign(Role::Colon) => Role::PathMark,
@@ -163,8 +166,9 @@ fn colon_role(last: LexemeClass) -> Role {
     }
 }
 
-/// Returns the role of a `<`. After the name of a type or the `::` of a path, and before an
-/// operand, it opens a list of types.
+/// Returns the role of a `<` after a lexeme of the class `last`. It opens a list of types after the
+/// name of a type, after a keyword that declares a name, after the `::` of a path, and before an
+/// operand. `is_second` is whether no gap separates the two.
 fn less_role(last: LexemeClass, is_second: bool) -> Role {
     match last {
         LexemeClass::TypeName | LexemeClass::Declaring | LexemeClass::Sign(Role::PathMark) =>
@@ -174,7 +178,8 @@ fn less_role(last: LexemeClass, is_second: bool) -> Role {
     }
 }
 
-/// Returns the role of a `>`. It closes a list of types, unless it ends an arrow.
+/// Returns the role of a `>` after a lexeme of the class `last`. It closes a list of types if one
+/// is open, unless it ends an arrow. `has_types` is whether one is open.
 fn greater_role(last: LexemeClass, has_types: bool) -> Role {
     match last {
         LexemeClass::Sign(Role::Arrow) => Role::Operator,
@@ -183,19 +188,20 @@ fn greater_role(last: LexemeClass, has_types: bool) -> Role {
     }
 }
 
-/// Returns whether a `!` ends the name of a macro: it is not joint to punctuation, and follows a
-/// name.
+/// Returns whether a `!` after a lexeme of the class `last` ends the name of a macro: whether it is
+/// not joint to punctuation, and follows a name.
 fn is_macro_mark(last: LexemeClass, spacing: Spacing) -> bool {
     matches!(last, LexemeClass::Name | LexemeClass::TypeName) & matches!(spacing, Spacing::Alone)
 }
 
-/// Returns whether a character precedes an operand, and is not the second one of an operator.
+/// Returns whether a character after a lexeme of the class `last` precedes an operand, and is not
+/// the second one of an operator. `is_second` is whether no gap separates the two.
 fn is_prefix(last: LexemeClass, is_second: bool) -> bool {
     let is_operator = matches!(last, LexemeClass::Sign(Role::Operator | Role::Arrow));
     is_before_operand(last) & !(is_operator & is_second)
 }
 
-/// Returns whether an operand can follow a lexeme of this class.
+/// Returns whether an operand can follow a lexeme of the class `last`.
 fn is_before_operand(last: LexemeClass) -> bool {
     match last {
         LexemeClass::Start

@@ -1,4 +1,4 @@
-//! The conditions under which an item is compiled. Used by `logos_expand`.
+//! Copies the conditions under which an item is compiled. Used by `logos_expand`.
 
 ghost use Rattle.std.specs.Prelude.{◌≡◌, ◌++◌, OnOk, codes, string_bytes};
 ghost use Rattle.logos_layout.specs.Imports.{after_word, attribute_condition, attribute_text, attribute_value, conditions_text, text_if, tokens_of};
@@ -9,12 +9,12 @@ use logos_token::token::{Tokens, print};
 use logos_token::util::after_word;
 use std::alloc::Global;
 
-/// Appends the `cfg` attributes of an item, one on each line. They are among its leading
-/// attributes.
+/// Appends to `text` the `cfg` attributes among the leading attributes of the item with the tokens
+/// `item`, each on a line.
 ///
 /// # Errors
 ///
-/// Returns `Memory` if memory runs out. Then some of them may have been appended.
+/// Returns `Memory` if memory runs out. Some of the attributes may then have been appended.
 pub fn push_conditions(alloc: Global, text: &mut String, item: Tokens<'_, '_>) -> Result<(), Memory>
     ensures { OnOk result (string_bytes text.new
         ≡ string_bytes text.old ++ conditions_text (tokens_of item.entry)) }
@@ -27,7 +27,7 @@ pub fn push_conditions(alloc: Global, text: &mut String, item: Tokens<'_, '_>) -
     Ok(())
 }
 
-/// Appends an attribute, if it is a condition.
+/// Appends `attribute` to `text`, on a line, if it is a `cfg` attribute.
 fn push_condition(
     alloc: Global,
     text: &mut String,
@@ -42,7 +42,8 @@ fn push_condition(
     }
 }
 
-/// Appends the attribute with this run between its brackets, if it is a condition.
+/// Appends to `text` the attribute with the tokens `run` between its brackets, on a line, if it is
+/// a `cfg` attribute.
 fn push_if_condition(alloc: Global, text: &mut String, run: Tokens<'_, '_>) -> Result<(), Memory>
     ensures { OnOk result (string_bytes text.new ≡ string_bytes text.old
         ++ text_if (after_word (codes "cfg") (tokens_of run.entry)) (tokens_of run.entry)) }
@@ -53,7 +54,7 @@ fn push_if_condition(alloc: Global, text: &mut String, run: Tokens<'_, '_>) -> R
     }
 }
 
-/// Appends the attribute with this run between its brackets.
+/// Appends to `text` the attribute with the tokens `run` between its brackets, on a line.
 fn push_attribute(alloc: Global, text: &mut String, run: Tokens<'_, '_>) -> Result<(), Memory>
     ensures { OnOk result (string_bytes text.new
         ≡ string_bytes text.old ++ attribute_text (tokens_of run.entry)) }

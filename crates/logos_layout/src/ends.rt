@@ -1,4 +1,4 @@
-//! The end of the tokens of a text. Used by `layout`.
+//! Checks how the tokens of a text end. Used by `layout`.
 
 ghost use Rattle.std.specs.Prelude.{◌≡◌, IfOk, IsTrue, Some};
 ghost use Rattle.logos_layout.specs.Imports.{EndsWithBraces, IsClosed, braces_end, tokens_of, tree_of};
@@ -7,7 +7,8 @@ use logos_token::error::Memory;
 use logos_token::token::{Delimiter, TokenError, TokenTree, Tokens, tokenize};
 use std::alloc::Global;
 
-/// Returns whether a text ends with the closing brace of its last token.
+/// Returns whether a text ends with the closing brace of its last token. Returns `false` if the
+/// text cannot be read into tokens.
 pub(crate) fn is_closed(alloc: Global, text: &str) -> Result<bool, Memory>
     ensures { IfOk result (λ is. IsTrue is → IsClosed text.now) }
 {
@@ -18,7 +19,8 @@ pub(crate) fn is_closed(alloc: Global, text: &str) -> Result<bool, Memory>
     }
 }
 
-/// Returns whether the last tree of a run is a group in braces that ends at a byte offset.
+/// Returns whether the last token of a run is a group in braces that ends at the byte offset `to`.
+/// Returns `false` for an empty run.
 fn ends_with_braces(run: Tokens<'_, '_>, to: usize) -> bool
     ensures { IsTrue result → EndsWithBraces to (tokens_of run.entry) }
 {
@@ -32,7 +34,7 @@ fn ends_with_braces(run: Tokens<'_, '_>, to: usize) -> bool
     false
 }
 
-/// Returns whether a tree is a group in braces that ends at a byte offset.
+/// Returns whether a token is a group in braces that ends at the byte offset `to`.
 fn is_braces_to(tree: TokenTree<'_, '_>, to: usize) -> bool
     ensures { IsTrue result → braces_end (tree_of tree.entry) ≡ Some to }
 {

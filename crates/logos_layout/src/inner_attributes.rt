@@ -1,5 +1,5 @@
-//! The documentation and the attributes of a file itself, at its beginning. Called by
-//! `logos_expand`.
+//! Puts the documentation and the attributes of a file itself, at its beginning, into plain
+//! comments. Used by `logos_expand`.
 
 ghost use Rattle.std.specs.Prelude.{◌≡◌, ◌<◌, IfOk, IfSome, IsTrue, MatchOption, None, Some, string_bytes};
 ghost use Rattle.logos_layout.specs.Imports.{FollowsInner, IsInnerText, IsPlainly, Spells, after_brackets, after_inner, after_mark, count_of, is_inner, none, tokens_of};
@@ -10,7 +10,7 @@ use logos_token::error::Memory;
 use logos_token::token::{Delimiter, TokenError, TokenTree, Tokens, print, tokenize};
 use std::alloc::Global;
 
-/// Returns whether a Rust file with these tokens begins with inner documentation or inner
+/// Returns whether a Rust file with the tokens `tokens` begins with inner documentation or inner
 /// attributes.
 pub fn has_inner(tokens: Tokens<'_, '_>) -> bool {
     read_inner(tokens).0 > 0
@@ -18,10 +18,10 @@ pub fn has_inner(tokens: Tokens<'_, '_>) -> bool {
 
 /// Returns a Rust file with plain comments in place of the inner documentation and the inner
 /// attributes with which it begins: `//!` becomes `//`, `/*!` becomes `/*`, and `#![..]` is put
-/// into `/* */`. Another file can then include it. The tokens after them are unchanged.
+/// into `/* */`. Another file can then include it. The tokens after the comments are unchanged.
 ///
 /// Returns `None` if the file cannot be read into tokens, if it does not begin with inner
-/// documentation or inner attributes, or if the attributes would end these comments.
+/// documentation or inner attributes, or if an attribute would end the comment around it.
 ///
 /// # Errors
 ///
@@ -37,7 +37,7 @@ pub fn without_inner(alloc: Global, file: &str) -> Result<Option<String>, Memory
     }
 }
 
-/// Returns the result of `without_inner` for a file that has these tokens.
+/// Returns the result of `without_inner` for the file with the text `file` and the tokens `tokens`.
 fn without_front(
     alloc: Global,
     file: &str,
@@ -63,8 +63,9 @@ fn without_front(
     Ok(None)
 }
 
-/// Returns the plain comments that replace a text of inner documentation comments and attributes,
-/// or `None` if the text spells anything else, or if the comments would spell tokens.
+/// Returns the plain comments that replace `front`, a text of inner documentation comments and
+/// attributes. Returns `None` if the text is empty or spells anything else, or if the comments
+/// would spell tokens.
 fn plain_comments(alloc: Global, front: &str) -> Result<Option<String>, Memory>
     ensures { IfOk result (λ found. IfSome found
         (λ plain. IsInnerText front.now × Spells (string_bytes plain) none)) }
@@ -79,7 +80,8 @@ fn plain_comments(alloc: Global, front: &str) -> Result<Option<String>, Memory>
     Ok(None)
 }
 
-/// Returns whether a text spells only inner documentation comments and attributes.
+/// Returns whether a text spells only inner documentation comments and attributes. Returns `false`
+/// if the text cannot be read into tokens.
 fn is_inner_text(alloc: Global, text: &str) -> Result<bool, Memory>
     ensures { IfOk result (λ is. IsTrue is → IsInnerText text.now) }
 {
@@ -90,7 +92,7 @@ fn is_inner_text(alloc: Global, text: &str) -> Result<bool, Memory>
     }
 }
 
-/// Returns whether a text spells no tokens.
+/// Returns whether a text spells no tokens. Returns `false` if the text cannot be read into tokens.
 fn is_bare(alloc: Global, text: &str) -> Result<bool, Memory>
     ensures { IfOk result (λ is. IsTrue is → Spells text.now none) }
 {
@@ -101,15 +103,16 @@ fn is_bare(alloc: Global, text: &str) -> Result<bool, Memory>
     }
 }
 
-/// Returns whether a run has only inner documentation comments and attributes.
+/// Returns whether a run consists of inner documentation comments and attributes alone, or is
+/// empty.
 fn is_all_inner(run: Tokens<'_, '_>) -> bool
     ensures { IsTrue result → FollowsInner (tokens_of run.entry) none }
 {
     read_inner(run).1.is_empty()
 }
 
-/// Returns the byte offset at which the leading inner documentation comments and attributes of a
-/// run end, or 0 if there are none, and the tokens after them.
+/// Returns the byte offset in the source at which the leading inner documentation comments and
+/// attributes of a run end, or 0 if there are none, and the tokens after them.
 fn read_inner<'t, 's>(run: Tokens<'t, 's>) -> (usize, Tokens<'t, 's>)
     ensures { FollowsInner (tokens_of run.entry) (tokens_of result.1) }
 {
@@ -122,8 +125,9 @@ fn read_inner<'t, 's>(run: Tokens<'t, 's>) -> (usize, Tokens<'t, 's>)
     (end, rest)
 }
 
-/// Returns the byte offset at which the first inner documentation comment or attribute ends, and
-/// the tokens after it, or `None` if the run does not begin with one.
+/// Returns the byte offset in the source at which the inner documentation comment or attribute ends
+/// with which a run begins, and the tokens after it. Returns `None` if the run does not begin with
+/// one.
 fn inner_at<'t, 's>(tokens: Tokens<'t, 's>) -> Option<(usize, Tokens<'t, 's>)>
     ensures { MatchOption result (after_inner (tokens_of tokens.entry) ≡ None)
         (λ read. (after_inner (tokens_of tokens.entry) ≡ Some (tokens_of read.1))
@@ -136,8 +140,8 @@ fn inner_at<'t, 's>(tokens: Tokens<'t, 's>) -> Option<(usize, Tokens<'t, 's>)>
     }
 }
 
-/// Returns the byte offset at which the brackets after `!` end, and the tokens after them, or
-/// `None` if the run does not begin with `!` and brackets.
+/// Returns the byte offset in the source at which the brackets end if a run begins with `!` and
+/// brackets, and the tokens after them. Returns `None` for any other run.
 fn marked<'t, 's>(tokens: Tokens<'t, 's>) -> Option<(usize, Tokens<'t, 's>)>
     ensures { MatchOption result (after_mark (tokens_of tokens.entry) ≡ None)
         (λ read. (after_mark (tokens_of tokens.entry) ≡ Some (tokens_of read.1))
@@ -149,8 +153,8 @@ fn marked<'t, 's>(tokens: Tokens<'t, 's>) -> Option<(usize, Tokens<'t, 's>)>
     }
 }
 
-/// Returns the byte offset at which leading brackets end, and the tokens after them, or `None` if
-/// the run does not begin with brackets.
+/// Returns the byte offset in the source at which the brackets end if a run begins with brackets,
+/// and the tokens after them. Returns `None` for any other run.
 fn bracketed<'t, 's>(tokens: Tokens<'t, 's>) -> Option<(usize, Tokens<'t, 's>)>
     ensures { MatchOption result (after_brackets (tokens_of tokens.entry) ≡ None)
         (λ read. (after_brackets (tokens_of tokens.entry) ≡ Some (tokens_of read.1))
@@ -164,7 +168,8 @@ fn bracketed<'t, 's>(tokens: Tokens<'t, 's>) -> Option<(usize, Tokens<'t, 's>)>
     }
 }
 
-/// Returns whether a documentation comment documents the item around it.
+/// Returns whether a documentation comment documents the item around it: whether its third byte is
+/// `!`.
 fn is_inner(comment: &str) -> bool
     ensures { result ≡ is_inner comment.now }
 {

@@ -1,10 +1,10 @@
-//! The lexemes of a source that stay. Called by `without_derive`.
+//! Finds the lexemes of a source that stay. Used by `without_derive`.
 
 use logos_token::error::Memory;
 use logos_token::token::{Span, TokenTree, Tokens};
 use std::alloc::Global;
 
-/// The tokens after a group, and the end of the group around it.
+/// The tokens after an open group, with the byte offset at which the group around it ends.
 #[derive(Clone, Copy)]
 struct Enclosing<'t, 's> {
     rest: Tokens<'t, 's>,
@@ -18,13 +18,13 @@ pub(crate) struct Staying<'t, 's> {
     rest: Tokens<'t, 's>,
     /// The byte offset at which the innermost open group ends.
     to: usize,
-    /// For each open group, the outermost first, the tokens after it and the end of the group
-    /// around it.
+    /// For each open group, the outermost first, the tokens after the group and the end of the
+    /// group around it.
     outer: Vec<Enclosing<'t, 's>>,
 }
 
 impl<'t, 's> Staying<'t, 's> {
-    /// Returns a cursor before all these tokens.
+    /// Returns a cursor before all of `tokens`.
     pub(crate) fn new(alloc: Global, tokens: Tokens<'t, 's>) -> Staying<'t, 's> {
         Staying {
             rest: tokens,
@@ -33,7 +33,8 @@ impl<'t, 's> Staying<'t, 's> {
         }
     }
 
-    /// Returns whether the lexeme with this span is the next one that stays. If so, moves past it.
+    /// Returns whether the lexeme at `span` is the next one that stays. If so, moves the cursor
+    /// past it.
     pub(crate) fn pass(&mut self, span: Span) -> Result<bool, Memory> {
         let Some(tree) = self.rest.first() else {
             return Ok(self.leave(span.to));
@@ -45,7 +46,8 @@ impl<'t, 's> Staying<'t, 's> {
         Ok(true)
     }
 
-    /// Moves past the first token, or into its group.
+    /// Moves the cursor past `tree`, the next token. If the token is a group, moves the cursor only
+    /// past its opening delimiter.
     fn enter(&mut self, tree: TokenTree<'t, 's>) -> Result<(), Memory> {
         let rest = self.rest.rest();
         let TokenTree::Group(group) = tree else {
@@ -58,7 +60,8 @@ impl<'t, 's> Staying<'t, 's> {
         Ok(())
     }
 
-    /// Leaves the innermost group if it ends at this byte offset. Returns whether it does.
+    /// Returns whether the innermost open group ends at the byte offset `to`. If so, moves the
+    /// cursor past the group.
     fn leave(&mut self, to: usize) -> bool {
         if to != self.to {
             return false;

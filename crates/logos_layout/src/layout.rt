@@ -1,4 +1,4 @@
-//! The layout of a text. Called by `logos_expand`.
+//! Lays a text out in lines. Used by `logos_expand`.
 
 ghost use Rattle.std.specs.Prelude.{IfOk, string_bytes};
 ghost use Rattle.logos_layout.specs.Imports.{IsLaidOut};
@@ -9,12 +9,12 @@ use crate::line_breaks::lines_of;
 use logos_token::error::Memory;
 use std::alloc::Global;
 
-/// A comment that names a line of another text.
+/// The position and the content of a comment that names a line of another text.
 #[derive(Clone, Copy)]
 pub struct Note {
     /// The byte offset in the text before which the comment is inserted.
     pub offset: usize,
-    /// The number of the line, counted from 1.
+    /// The number of the line in the other text, counted from 1.
     pub line: usize,
 }
 
@@ -28,14 +28,15 @@ pub struct Setting<'n> {
 }
 
 /// Returns a Rust text laid out in lines. Its tokens and comments do not change, except that the
-/// comments of the setting are inserted. Each line begins with the margin and four blanks for each
-/// level of braces, and has at most 100 bytes if it can be broken at a blank. Lines end after `;`,
-/// after the braces of blocks, after commas between braces, after attributes and comments, and
-/// where the text has a line end. Short braces stay on one line.
+/// comments of `setting` are inserted. Each line begins with the margin of `setting`, and with four
+/// blanks for each level of braces and for a line that continues another. It has at most 100 bytes
+/// if it can be broken at a blank. Lines end after `;`, after the braces of blocks, after commas
+/// between braces, after attributes and comments, and where the text has a line end. A lexeme such
+/// as `else` or `.` stays on the line of the braces before it. Short braces stay on one line.
 ///
-/// The lines end with the last token, a group in braces. A text that ends otherwise, that cannot be
-/// read into tokens, or that is longer than 16,777,216 bytes in lines, is returned unchanged, with
-/// LF after it.
+/// The last token must be a group in braces, with which the result ends. A text that ends
+/// otherwise, that cannot be read into tokens, or that is longer than 16,777,216 bytes in lines, is
+/// returned unchanged, with LF after it.
 ///
 /// # Errors
 ///

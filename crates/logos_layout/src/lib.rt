@@ -1,5 +1,5 @@
 //! Writes Rust text for people: laid out in lines, or with the layout of its source, and with
-//! unchanged tokens. Called by `logos_expand`.
+//! unchanged tokens. Used by `logos_expand`.
 
 #![tactic(auto)]
 

@@ -10,16 +10,17 @@ use logos_token::error::Memory;
 use logos_token::token::{Delimiter, Spacing};
 use std::alloc::Global;
 
-/// A layout in progress: the lines so far, and the state.
+/// A layout in progress: the lines so far, with the state after them.
 #[derive(Drop)]
 struct Layout {
     lines: WordLines,
     state: LayoutState,
-    /// The content of the open delimiters except the innermost one, the outermost first.
+    /// The contents of the delimiters around the innermost open one, the outermost first.
     outer: Vec<Open>,
 }
 
-/// Returns a text in lines, up to the first byte that cannot be read into a lexeme.
+/// Returns `text` in lines, up to the first byte that cannot be read into a lexeme, with the
+/// comments of `setting`.
 pub(crate) fn lines_of(alloc: Global, text: &str, setting: Setting<'_>) -> Result<String, Memory> {
     let mut layout = Layout {
         lines: WordLines::new(alloc, setting.margin)?,
@@ -38,7 +39,8 @@ pub(crate) fn lines_of(alloc: Global, text: &str, setting: Setting<'_>) -> Resul
 }
 
 impl Layout {
-    /// Adds a lexeme or a gap that is followed by the bytes `ahead`.
+    /// Adds to the layout the lexeme or gap `piece` of the kind `kind`. The bytes `ahead` follow it
+    /// in the text.
     fn add_piece(&mut self, kind: LexemeKind, piece: &str, ahead: &[u8]) -> Result<(), Memory> {
         let last = self.state.last;
         match kind {
@@ -55,7 +57,8 @@ impl Layout {
         }
     }
 
-    /// Adds the first of these comments, if it belongs before this byte offset. Returns the others.
+    /// Adds to the layout the first of `notes` as a comment, if its offset is at most the byte
+    /// offset `from`. Returns the notes that were not added.
     fn add_note<'n>(
         &mut self,
         alloc: Global,
@@ -73,7 +76,7 @@ impl Layout {
         }
     }
 
-    /// Returns the role of a character of punctuation.
+    /// Returns the role of `character`, the next character of punctuation.
     fn role(&self, character: u8, spacing: Spacing) -> Role {
         role_of(Punctuation {
             character,
@@ -84,14 +87,14 @@ impl Layout {
         })
     }
 
-    /// Adds a lexeme that is not a delimiter.
+    /// Adds to the layout a lexeme of the class `next`, which is not a delimiter.
     fn add(&mut self, next: LexemeClass, lexeme: &str) -> Result<(), Memory> {
         self.put(next, lexeme)?;
         self.state = self.state.after(next);
         Ok(())
     }
 
-    /// Adds an opening delimiter.
+    /// Adds an opening delimiter to the layout. The bytes `ahead` follow it in the text.
     fn open(&mut self, delimiter: Delimiter, lexeme: &str, ahead: &[u8]) -> Result<(), Memory> {
         let last = self.state.last;
         self.put(LexemeClass::Opening(delimiter), lexeme)?;
@@ -101,7 +104,7 @@ impl Layout {
         Ok(())
     }
 
-    /// Adds a closing delimiter.
+    /// Adds a closing delimiter to the layout.
     fn close(&mut self, delimiter: Delimiter, lexeme: &str) -> Result<(), Memory> {
         self.put(LexemeClass::Closing(delimiter), lexeme)?;
         let outer = match self.outer.pop() {
@@ -112,7 +115,8 @@ impl Layout {
         Ok(())
     }
 
-    /// Adds a lexeme to the current word, or begins a word with it.
+    /// Adds a lexeme of the class `next` to the current word, or begins a word with it. The state
+    /// of the layout does not change.
     fn put(&mut self, next: LexemeClass, lexeme: &str) -> Result<(), Memory> {
         if let Some(lead) = self.state.lead(next) {
             self.lines.begin(lead)?;
@@ -120,7 +124,7 @@ impl Layout {
         self.lines.add(lexeme)
     }
 
-    /// Adds a gap: a comment, or white space.
+    /// Adds a gap to the layout: a comment as a lexeme, and white space to the state.
     fn add_gap(&mut self, piece: &str) -> Result<(), Memory> {
         if first_byte(piece) == b'/' {
             return self.add(LexemeClass::Comment, piece);
@@ -130,7 +134,7 @@ impl Layout {
     }
 }
 
-/// Returns the first byte of a text, or 0 if it has none.
+/// Returns the first byte of a text, or 0 if the text is empty.
 fn first_byte(text: &str) -> u8 {
     match text.as_bytes() {
         [first, ..] => *first,
@@ -138,7 +142,7 @@ fn first_byte(text: &str) -> u8 {
     }
 }
 
-/// Returns the content of a gap that consists of this white space.
+/// Returns the content of a gap that consists of the white space `space`, which is not empty.
 fn gap_of(space: &[u8]) -> Gap {
     let mut gap = Gap::Blank;
     for byte in space {
@@ -147,7 +151,7 @@ fn gap_of(space: &[u8]) -> Gap {
     gap
 }
 
-/// Returns the content of a gap with one more byte of white space.
+/// Returns the content of the gap `gap` with `byte`, a byte of white space, appended to it.
 fn gap_with(gap: Gap, byte: u8) -> Gap {
     match (gap, byte) {
         (Gap::Line, b'\n') => Gap::EmptyLine,

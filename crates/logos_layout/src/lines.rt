@@ -1,4 +1,4 @@
-//! Lines that are filled word by word. Used by `line_breaks` and `state`.
+//! Fills lines word by word. Used by `line_breaks` and `state`.
 
 use logos_token::error::Memory;
 use std::alloc::Global;
@@ -17,18 +17,18 @@ pub(crate) enum WordLead {
     Nothing,
 }
 
-/// Lines that are filled word by word. A word is lexemes without a blank between them.
+/// A text in lines that are filled word by word. A word is lexemes without a blank between them.
 #[derive(Drop)]
 pub(crate) struct WordLines {
-    /// The lines so far, without the last word.
+    /// The lines so far, without the current word.
     text: String,
     /// The blanks before each line.
     margin: String,
-    /// The number of bytes of the last line.
+    /// The number of bytes of the last line of `text`.
     column: usize,
-    /// The separator before the last word.
+    /// The separator before the current word.
     lead: WordLead,
-    /// The last word.
+    /// The current word, to which lexemes are added.
     word: String,
 }
 
@@ -45,32 +45,34 @@ impl WordLines {
         })
     }
 
-    /// Puts the current word into its line, and begins a word with the separator `lead` before it.
+    /// Appends the current word to the lines, and begins a new word with the separator `lead`
+    /// before it.
     pub(crate) fn begin(&mut self, lead: WordLead) -> Result<(), Memory> {
         self.put_word()?;
         self.lead = lead;
         Ok(())
     }
 
-    /// Returns the number of bytes that fit into the line after the word.
+    /// Returns the number of bytes that fit into the last line after the current word, without a
+    /// separator before the word, or 0 if none do.
     pub(crate) fn room(&self) -> usize {
         let used = self.column.saturating_add(self.word.len());
         MAX_LINE.saturating_sub(used)
     }
 
-    /// Adds a lexeme to the word.
+    /// Appends a lexeme to the current word.
     pub(crate) fn add(&mut self, lexeme: &str) -> Result<(), Memory> {
         self.word.push_str(lexeme)?;
         Ok(())
     }
 
-    /// Returns all lines, with the last word.
+    /// Returns all lines, including the current word.
     pub(crate) fn finish(mut self) -> Result<String, Memory> {
         self.put_word()?;
         Ok(self.text)
     }
 
-    /// Puts the word into its line, or into a new one.
+    /// Appends the current word and the separator before it to the lines. The word is then empty.
     fn put_word(&mut self) -> Result<(), Memory> {
         self.put_lead()?;
         self.text.push_str(self.word.as_str())?;
@@ -79,7 +81,7 @@ impl WordLines {
         Ok(())
     }
 
-    /// Appends the separator before the word.
+    /// Appends the separator before the current word to the lines.
     fn put_lead(&mut self) -> Result<(), Memory> {
         match self.lead {
             WordLead::Nothing => self.put_margin(),
@@ -92,19 +94,19 @@ impl WordLines {
         }
     }
 
-    /// Returns whether the word and a blank fit into the line.
+    /// Returns whether a blank and the current word fit into the last line.
     fn has_room(&self) -> bool {
         self.column.saturating_add(self.word.len()) < MAX_LINE
     }
 
-    /// Appends a blank to the line.
+    /// Appends a blank to the last line.
     fn put_blank(&mut self) -> Result<(), Memory> {
         self.text.push(' ')?;
         self.column = self.column.saturating_add(1);
         Ok(())
     }
 
-    /// Appends a line end, if an empty line is requested.
+    /// Appends a line end if `is_apart` is set, so that an empty line follows the last line.
     fn put_empty_line(&mut self, is_apart: bool) -> Result<(), Memory> {
         if is_apart {
             self.text.push('\n')?;
@@ -112,7 +114,7 @@ impl WordLines {
         Ok(())
     }
 
-    /// Ends the line, and begins one with `depth` levels of four blanks.
+    /// Ends the last line, and begins a line with the margin and `depth` levels of four blanks.
     fn put_line(&mut self, depth: usize) -> Result<(), Memory> {
         self.text.push('\n')?;
         self.put_margin()?;
@@ -123,7 +125,7 @@ impl WordLines {
         Ok(())
     }
 
-    /// Appends the blanks with which each line begins.
+    /// Appends the margin to the lines, as the beginning of a line.
     fn put_margin(&mut self) -> Result<(), Memory> {
         self.text.push_str(self.margin.as_str())?;
         self.column = self.margin.len();

@@ -1,11 +1,11 @@
-//! The lexemes and the gaps of a text, one after another. Used by `line_breaks`, `plain_comments`
-//! and `without_derive`.
+//! Splits a text into its lexemes and gaps. Used by `line_breaks`, `plain_comments` and
+//! `without_derive`.
 
 ghost use Rattle.std.specs.Prelude.{◌<◌, IfSome, length};
 
 use logos_lexeme::lexeme::{LexemeKind, lexeme_at};
 
-/// The first lexeme or gap of a text.
+/// The first lexeme or gap of a text, with the text after it.
 #[derive(Clone, Copy)]
 pub(crate) struct FirstPiece<'t> {
     pub(crate) kind: LexemeKind,
@@ -14,8 +14,8 @@ pub(crate) struct FirstPiece<'t> {
     pub(crate) rest: &'t str,
 }
 
-/// Returns the first lexeme or gap of a text, or `None` if the text is empty or does not begin with
-/// one.
+/// Returns the first lexeme or gap of a text, or `None` if the text is empty or its beginning
+/// cannot be read into a lexeme.
 pub(crate) fn first_piece(text: &str) -> Option<FirstPiece<'_>>
     ensures { IfSome result (λ first. length first.rest.now < length text.now) }
 {

@@ -7,8 +7,8 @@ use logos_lexeme::lexeme::LexemeKind;
 use logos_token::error::Memory;
 use std::alloc::Global;
 
-/// Returns a text of inner documentation comments and attributes as plain comments, up to the first
-/// byte that cannot be read into a lexeme.
+/// Returns plain comments in place of `text`, a text of inner documentation comments and
+/// attributes, up to the first byte that cannot be read into a lexeme.
 pub(crate) fn plain_text(alloc: Global, text: &str) -> Result<String, Memory> {
     let mut plain = String::new(alloc);
     let mut depth = 0;
@@ -21,7 +21,8 @@ pub(crate) fn plain_text(alloc: Global, text: &str) -> Result<String, Memory> {
     Ok(plain)
 }
 
-/// Returns the number of open delimiters after a lexeme.
+/// Returns the number of open delimiters after a lexeme or gap of the kind `kind`, before which
+/// `depth` are open.
 fn depth_after(kind: LexemeKind, depth: usize) -> usize {
     match kind {
         LexemeKind::Opening(_) => depth.saturating_add(1),
@@ -30,7 +31,9 @@ fn depth_after(kind: LexemeKind, depth: usize) -> usize {
     }
 }
 
-/// Appends a lexeme or a gap inside `depth` delimiters. An attribute is put into a comment.
+/// Appends to `plain` the lexeme or gap `piece`, which is inside of `depth` delimiters. Before the
+/// `#` of an attribute begins a comment, and after its brackets the comment ends. A documentation
+/// comment becomes a plain one.
 fn push_piece(
     plain: &mut String,
     kind: LexemeKind,
@@ -45,14 +48,15 @@ fn push_piece(
     }
 }
 
-/// Appends two texts.
+/// Appends `one` and then `other` to `plain`.
 fn push(plain: &mut String, one: &str, other: &str) -> Result<(), Memory> {
     plain.push_str(one)?;
     plain.push_str(other)?;
     Ok(())
 }
 
-/// Appends an inner documentation comment as a plain one.
+/// Appends an inner documentation comment to `plain` as a plain comment. Any other comment is
+/// appended unchanged.
 fn push_comment(plain: &mut String, comment: &str) -> Result<(), Memory> {
     if let Some(rest) = comment.strip_prefix("//!") {
         return push(plain, opening("//", rest), rest);
@@ -63,8 +67,8 @@ fn push_comment(plain: &mut String, comment: &str) -> Result<(), Memory> {
     push(plain, comment, "")
 }
 
-/// Returns the beginning of a plain comment with this text. A blank separates it from a character
-/// that would make it documentation.
+/// Returns `mark`, with which a plain comment with the text `rest` begins. A blank follows it if
+/// `rest` begins with a character that would make the comment documentation.
 fn opening(mark: &'static str, rest: &str) -> &'static str {
     match (mark, rest.as_bytes()) {
         ("//", [b'/' | b'!', ..]) => "// ",

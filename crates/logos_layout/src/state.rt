@@ -1,12 +1,12 @@
 //! The state of a layout: the properties of the lexemes so far that determine the separator before
-//! the next one. Used by `line_breaks`.
+//! the next lexeme. Used by `line_breaks`.
 
 use crate::blanks::is_blank;
 use crate::classes::{LexemeClass, Role};
 use crate::lines::WordLead;
 use logos_token::token::Delimiter;
 
-/// The content of an open delimiter.
+/// The kind of the content of an open delimiter.
 #[derive(Clone, Copy, PartialEq, Eq)]
 pub(crate) enum Open {
     /// Separate lines.
@@ -19,7 +19,7 @@ pub(crate) enum Open {
     Group,
 }
 
-/// The content of the gap before the next lexeme.
+/// The kind of the gap before the next lexeme, by its line ends.
 #[derive(Clone, Copy, PartialEq, Eq)]
 pub(crate) enum Gap {
     /// No byte: there is no gap.
@@ -32,7 +32,7 @@ pub(crate) enum Gap {
     EmptyLine,
 }
 
-/// The unit that ends with the last lexeme.
+/// The kind of the unit that ends with the last lexeme.
 #[derive(Clone, Copy, PartialEq, Eq)]
 pub(crate) enum LastEnd {
     /// Neither a line nor braces.
@@ -45,14 +45,14 @@ pub(crate) enum LastEnd {
     Short,
 }
 
-/// The state of a layout.
+/// The properties of the lexemes so far that determine the separator before the next lexeme.
 #[derive(Clone, Copy)]
 pub(crate) struct LayoutState {
     /// The number of open blocks.
     pub(crate) depth: usize,
     /// The number of open lists of types.
     pub(crate) types: usize,
-    /// The last lexeme.
+    /// The class of the last lexeme.
     pub(crate) last: LexemeClass,
     /// The gap after the last lexeme.
     pub(crate) gap: Gap,
@@ -75,7 +75,8 @@ impl LayoutState {
         }
     }
 
-    /// Returns the separator before the next lexeme, or `None` if it continues the word.
+    /// Returns the separator before the next lexeme, which has the class `next`, or `None` if the
+    /// lexeme continues the current word.
     pub(crate) fn lead(self, next: LexemeClass) -> Option<WordLead> {
         if matches!(self.last, LexemeClass::Start) {
             return None;
@@ -93,7 +94,7 @@ impl LayoutState {
         None
     }
 
-    /// Returns whether the next lexeme begins a line.
+    /// Returns whether the next lexeme, which has the class `next`, begins a line.
     fn is_line_before(self, next: LexemeClass) -> bool {
         if closes_block(self.inner, next) {
             return true;
@@ -106,7 +107,8 @@ impl LayoutState {
         }
     }
 
-    /// Returns the number of levels of the line that the next lexeme begins.
+    /// Returns the number of levels of four blanks before the next lexeme, which has the class
+    /// `next` and begins a line.
     fn depth_before(self, next: LexemeClass) -> usize {
         if closes_block(self.inner, next) {
             return self.depth.saturating_sub(1);
@@ -137,7 +139,8 @@ impl LayoutState {
         }
     }
 
-    /// Returns the state after a closing delimiter inside the content `outer`.
+    /// Returns the state after a closing delimiter. `outer` is the content of the delimiter around
+    /// it.
     pub(crate) fn after_closing(self, delimiter: Delimiter, outer: Open) -> LayoutState {
         let is_block = matches!(self.inner, Open::Block);
         LayoutState {
@@ -150,7 +153,7 @@ impl LayoutState {
         }
     }
 
-    /// Returns the state after a lexeme that is not a delimiter.
+    /// Returns the state after a lexeme of the class `next`, which is not a delimiter.
     pub(crate) fn after(self, next: LexemeClass) -> LayoutState {
         LayoutState {
             types: types_after(next, self.types),
@@ -161,7 +164,7 @@ impl LayoutState {
         }
     }
 
-    /// Returns the unit that ends with a lexeme that is not a delimiter.
+    /// Returns the unit that ends with a lexeme of the class `next`, which is not a delimiter.
     fn end_at(self, next: LexemeClass) -> LastEnd {
         let ends = match next {
             LexemeClass::Comment => true,
@@ -177,12 +180,13 @@ impl LayoutState {
     }
 }
 
-/// Returns whether the lexeme closes the innermost block.
+/// Returns whether a lexeme of the class `next` closes the innermost open delimiter, whose content
+/// `inner` is separate lines.
 fn closes_block(inner: Open, next: LexemeClass) -> bool {
     matches!(inner, Open::Block) & matches!(next, LexemeClass::Closing(_))
 }
 
-/// Returns whether a lexeme continues the line of closing braces.
+/// Returns whether a lexeme of the class `next` continues the line of the closing braces before it.
 fn continues(next: LexemeClass) -> bool {
     match next {
         LexemeClass::Sign(role) => matches!(
@@ -200,7 +204,7 @@ fn continues(next: LexemeClass) -> bool {
     }
 }
 
-/// Returns the unit that ends with the delimiters around this content.
+/// Returns the unit that ends with the closing delimiter after the content `inner`.
 fn end_of(inner: Open) -> LastEnd {
     match inner {
         Open::Block => LastEnd::Block,
@@ -210,7 +214,8 @@ fn end_of(inner: Open) -> LastEnd {
     }
 }
 
-/// Returns the number of open lists of types after a delimiter. Braces end all of them.
+/// Returns the number of open lists of types after an opening or closing delimiter, before which
+/// `types` are open. Braces end all of them.
 fn types_inside(delimiter: Delimiter, types: usize) -> usize {
     match delimiter {
         Delimiter::Brace => 0,
@@ -218,7 +223,8 @@ fn types_inside(delimiter: Delimiter, types: usize) -> usize {
     }
 }
 
-/// Returns the number of open lists of types after a lexeme.
+/// Returns the number of open lists of types after a lexeme of the class `next`, before which
+/// `types` are open. A `;` ends all of them.
 fn types_after(next: LexemeClass, types: usize) -> usize {
     match next {
         LexemeClass::Sign(Role::Semicolon) => 0,
@@ -228,8 +234,8 @@ fn types_after(next: LexemeClass, types: usize) -> usize {
     }
 }
 
-/// Returns the content that a delimiter opens after a lexeme of the class `last`. The bytes `ahead`
-/// follow it, and `room` of them fit into the line.
+/// Returns the kind of the content that an opening delimiter opens after a lexeme of the class
+/// `last`. The bytes `ahead` follow the delimiter, and `room` bytes fit into the line after it.
 pub(crate) fn opened(last: LexemeClass, delimiter: Delimiter, ahead: &[u8], room: usize) -> Open {
     match delimiter {
         Delimiter::Brace if is_short(ahead, room) => Open::Short,
@@ -239,7 +245,8 @@ pub(crate) fn opened(last: LexemeClass, delimiter: Delimiter, ahead: &[u8], room
     }
 }
 
-/// Returns whether braces close within `room` bytes, without a line end, `;` or other braces.
+/// Returns whether the first `}` of `ahead` is among its first `room` bytes, and no line end, `;`
+/// or `{` is before it.
 fn is_short(ahead: &[u8], room: usize) -> bool {
     for at in 0..room {
         match ahead.get(at) {

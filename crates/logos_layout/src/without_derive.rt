@@ -1,4 +1,4 @@
-//! A source without some of its lexemes. Called by `writer`.
+//! Removes lexemes from a source, with the gaps around them. Used by `writer`.
 
 use crate::kept_lexemes::Staying;
 use crate::pieces::first_piece;
@@ -7,23 +7,24 @@ use logos_token::error::Memory;
 use logos_token::token::Tokens;
 use std::alloc::Global;
 
-/// A text from which lexemes were removed, with the gaps around them.
+/// The beginning of a source, from which lexemes were removed with the gaps around them.
 #[derive(Drop)]
 struct Thinned {
     text: String,
-    /// The gap after the text, which is not appended to it yet.
+    /// The gap after the text, which has not been appended to it.
     gap: String,
     /// Whether the gap has a line end.
     has_line: bool,
-    /// Whether the last lexeme was removed and no gap has followed it.
+    /// Whether the last lexeme was removed, and no gap has been added since.
     is_cut: bool,
-    /// The number of open delimiters that were removed.
+    /// The number of removed opening delimiters that are still open.
     depth: usize,
 }
 
-/// Returns the text of a source without the lexemes that are not among these tokens, up to the
-/// first byte that cannot be read into a lexeme. A line that contains only such lexemes is removed
-/// with them. Comments stay unless they are inside a removed lexeme.
+/// Returns the text of `source` without the lexemes that are not among the tokens `left`, up to the
+/// first byte that cannot be read into a lexeme. A line that contains only removed lexemes is
+/// removed with them. Comments stay, except inside removed delimiters and after the last lexeme
+/// that stays.
 pub(crate) fn text_without(
     alloc: Global,
     source: &str,
@@ -42,7 +43,8 @@ pub(crate) fn text_without(
     Ok(thinned.text)
 }
 
-/// Returns whether a lexeme stays. For a gap, returns `false`.
+/// Returns whether a lexeme of the kind `kind` at `span` is the next one that stays, and moves
+/// `staying` past it. Returns `false` for a gap.
 fn stays(staying: &mut Staying<'_, '_>, kind: LexemeKind, span: Span) -> Result<bool, Memory> {
     match kind {
         LexemeKind::Gap => Ok(false),
@@ -51,7 +53,7 @@ fn stays(staying: &mut Staying<'_, '_>, kind: LexemeKind, span: Span) -> Result<
 }
 
 impl Thinned {
-    /// Returns an empty text.
+    /// Returns an empty text without a gap.
     fn new(alloc: Global) -> Thinned {
         Thinned {
             text: String::new(alloc),
@@ -62,7 +64,7 @@ impl Thinned {
         }
     }
 
-    /// Adds a gap, a lexeme that stays, or one that is removed.
+    /// Adds a gap or a lexeme to the text. A lexeme is removed unless `stays` is set.
     fn add_piece(&mut self, kind: LexemeKind, piece: &str, stays: bool) -> Result<(), Memory> {
         match kind {
             LexemeKind::Gap => self.add_gap(piece),
@@ -74,7 +76,8 @@ impl Thinned {
         }
     }
 
-    /// Adds a lexeme, and the gap before it.
+    /// Appends to the text the gap and the lexeme `lexeme`. Leaves out the gap if a lexeme directly
+    /// before `lexeme` was removed and the gap has no line end.
     fn add(&mut self, lexeme: &str) -> Result<(), Memory> {
         if !self.is_cut | self.has_line {
             self.text.push_str(self.gap.as_str())?;
@@ -87,7 +90,8 @@ impl Thinned {
         Ok(())
     }
 
-    /// Removes a lexeme, and counts the open delimiters that were removed.
+    /// Passes over a removed lexeme of the kind `kind`, and counts the removed delimiters that are
+    /// open.
     fn leave_out(&mut self, kind: LexemeKind) {
         self.is_cut = true;
         match kind {
@@ -97,7 +101,7 @@ impl Thinned {
         }
     }
 
-    /// Adds white space or a comment to the gap.
+    /// Adds white space or a comment to the gap, unless it is inside removed delimiters.
     fn add_gap(&mut self, piece: &str) -> Result<(), Memory> {
         if self.depth != 0 {
             return Ok(());
@@ -108,8 +112,8 @@ impl Thinned {
         self.push_gap(piece)
     }
 
-    /// Adds the white space after a removed lexeme. If it has a line end, it replaces a gap without
-    /// one.
+    /// Replaces the gap before a removed lexeme by `space`, the white space after the lexeme, if
+    /// only `space` has a line end. Leaves out `space` otherwise, and at the beginning of the text.
     fn join_gap(&mut self, space: &str) -> Result<(), Memory> {
         self.is_cut = false;
         if self.has_line | self.text.is_empty() | !has_line(space.as_bytes()) {
@@ -119,7 +123,7 @@ impl Thinned {
         self.push_gap(space)
     }
 
-    /// Appends a piece to the end of the gap.
+    /// Appends white space or a comment to the gap.
     fn push_gap(&mut self, piece: &str) -> Result<(), Memory> {
         self.gap.push_str(piece)?;
         self.has_line = self.has_line | has_line(piece.as_bytes());
@@ -128,7 +132,7 @@ impl Thinned {
     }
 }
 
-/// Returns whether a gap is a comment.
+/// Returns whether a gap is a comment: whether it begins with `/`.
 fn is_comment(piece: &str) -> bool {
     match piece.as_bytes() {
         [first, ..] => *first == b'/',
@@ -136,7 +140,7 @@ fn is_comment(piece: &str) -> bool {
     }
 }
 
-/// Returns whether a text has a line end.
+/// Returns whether `bytes` contain a line end.
 fn has_line(bytes: &[u8]) -> bool {
     for byte in bytes {
         if *byte == b'\n' {

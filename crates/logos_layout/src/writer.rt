@@ -1,4 +1,4 @@
-//! Writes the remaining tokens of a source. Called for stripping and expanding.
+//! Writes the tokens of a source that remain. Used by `logos_expand`.
 
 ghost use Rattle.std.specs.Prelude.{IfOk, string_bytes};
 ghost use Rattle.logos_layout.specs.Imports.{IsWrittenAs, tokens_of};
@@ -9,11 +9,11 @@ use logos_token::error::Memory;
 use logos_token::token::{Tokens, print};
 use std::alloc::Global;
 
-/// Returns the text of the remaining tokens of a source, with its comments and its layout. A line
-/// on which nothing stays is removed.
+/// Returns the text of `left`, the tokens of `source` that remain, with the comments and the layout
+/// of the source. A line all of whose tokens were removed is removed, unless it has a comment.
 ///
-/// `left` are tokens of the source with their spans in it, in order, possibly with fewer tokens
-/// inside their groups. Otherwise the text is that of `print`.
+/// The tokens are those of the source with their spans in it, in order, but groups may have lost
+/// tokens. For any other tokens, the text is that of `print`.
 ///
 /// # Errors
 ///
