@@ -27,7 +27,7 @@ pub enum Reason {
     TooLarge,
     /// The file system is read-only.
     ReadOnly,
-    /// All names for a new file beside the old one are taken.
+    /// All names for the new file, which is written beside a file and then replaces it, are taken.
     Taken,
     /// The system reports another reason.
     Other,

@@ -125,7 +125,7 @@ fn property_at(alloc: Global, negated: bool, text: &[char]) -> Result<(Atom, &[c
 }
 
 /// Reads hexadecimal digits up to `}`, from the text after `{`. Returns the atom of the character
-/// with their number, and the rest of the text.
+/// whose number the digits spell, and the text after `}`.
 ///
 /// # Errors
 ///
