@@ -33,7 +33,7 @@ pub struct Finding<'f> {
     pub leaf: Option<usize>,
     /// The name of the match's variant, or `None` for a skip or if there is no match.
     pub variant: Option<&'f str>,
-    /// The bytes of the match or of the error, which are none if the lexer finds neither.
+    /// The bytes of the match or of the error. Empty if the lexer finds neither.
     pub bytes: &'f [u8],
 }
 

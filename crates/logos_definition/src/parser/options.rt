@@ -263,7 +263,7 @@ impl<'s> Parser<'s> {
         Ok(())
     }
 
-    /// Appends the definition in `skip(..)`, or reports that there is none.
+    /// Appends the definition in `skip(..)`, or reports that it is missing.
     fn skip_group(&mut self, tokens: Tokens<'_, 's>) -> Result<(), Memory>
         ensures { OnOk result (IsReport
             (and_then (definition_report (tokens_of tokens.entry))
