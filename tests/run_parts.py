@@ -2,8 +2,10 @@
 """Runs the parts of tests/parts, and counts what passed.
 
   run_parts.py gate [--anew]              all of them, with the proved programs and the erased ones
-  run_parts.py quick [--rattle] [PART..]  those that are named, or all but those of the gate, with
-                                          the erased programs; with --rattle also with those that
+  run_parts.py quick [--long] [--rattle] [PART..]
+                                          those that are named, or all but the long ones and those
+                                          of the gate, with the erased programs; with --long also
+                                          the long ones, with --rattle also with the programs that
                                           Rattle builds without proofs. `lints` names all lints.
                                           If the named parts run only the three programs, Cargo
                                           builds no others
@@ -97,7 +99,7 @@ def listed():
             programs = set(re.findall(r"\{(\w+)\}", command))
             known = {*TOOLS, *FOR_TESTS, "examples", "compiler"}
             leasts = [int(it) for it in least.split(",")]
-            if runs not in ("alone", "beside", "gate") or by not in ("both", "-", *MAKERS) or not programs <= known or min(leasts) < 1:
+            if runs not in ("alone", "beside", "long", "gate") or by not in ("both", "-", *MAKERS) or not programs <= known or min(leasts) < 1:
                 fail(f"the list has a row that cannot be read: {line}")
             for one in MAKERS if by == "both" else [by]:
                 found.append(Part(name, leasts[-1 if one == "cargo" else 0], tool, runs, one, command.replace("{compiler}", one), programs - {"compiler"}))
@@ -229,7 +231,8 @@ def chosen(given):
     unknown = set(given.parts) - {it.row for it in all_parts}
     if unknown:
         fail(f"no part is named {sorted(unknown)[0]}: there are {', '.join(dict.fromkeys(it.row for it in all_parts))}")
-    wanted = lambda it: it.row in given.parts or not given.parts and (is_gate or it.runs != "gate")
+    left = () if is_gate else ("gate",) if given.long else ("gate", "long")
+    wanted = lambda it: it.row in given.parts or not given.parts and it.runs not in left
     parts = [it for it in all_parts if wanted(it) and (is_gate or given.rattle or it.by != "rattle")]
     makers = {MAKERS[it.by] for it in parts if it.by in MAKERS}
     parts = [it for it in all_parts if it in parts or it.row in makers]
@@ -237,6 +240,9 @@ def chosen(given):
         for part in parts:
             part.command += " build --release -p logos-cli" * (part.row == "erased")
     lines = [f"left out: {it.name}, because {it.missing()} is missing" for it in parts if it.missing()]
+    if "long" in left and not given.parts:
+        long = dict.fromkeys(it.row for it in all_parts if it.runs == "long")
+        lines.append(f"left out: {', '.join(long)}: bash tests/quick.sh --long runs them too")
     if not is_gate and not given.rattle:
         lines.append("left out: the programs that Rattle builds: bash tests/quick.sh --rattle runs them too")
     return [it for it in parts if not it.missing()], lines
@@ -246,6 +252,7 @@ def main():
     parser = argparse.ArgumentParser(prog="run_parts.py", allow_abbrev=False)
     parser.add_argument("how", choices=["gate", "quick"])
     parser.add_argument("--anew", action="store_true", help="prove everything, whatever an earlier run has proved")
+    parser.add_argument("--long", action="store_true", help="run the long parts, too")
     parser.add_argument("--rattle", action="store_true", help="run the programs that Rattle builds, too")
     parser.add_argument("parts", nargs="*", metavar="PART")
     given = parser.parse_intermixed_args()
