@@ -1,20 +1,20 @@
 #!/usr/bin/env python3
 """Makes the page `crates/README.md` from `crates.txt` and from the first comment of each crate, or
-compares it. Compares the rooms and the libraries in `crates.txt` with the crates.
+compares it. Compares the sections and the libraries in `crates.txt` with the crates.
 
   crates_page.py           fails where the page or `crates.txt` differs from the crates
   crates_page.py --write   writes the page
 
-`crates.txt` has a line `# TITLE: WHAT IT HOLDS` for each room and the crates of the room below it.
-Each crate stands in one room. No crate uses one of a later room, nor one further down in its own.
+`crates.txt` has a line `# TITLE: CONTENTS` for each section, and below it the crates of the section.
+Each crate is in one section. No crate uses one of a later section, nor one further down in its own.
 The libraries of a crate are those that its `.rt` and `.antt` files cite, as `NAME::` or
 `Rattle.NAME.`, apart from comments: none is missing and none is idle.
 
 `CONTRIBUTING.md` states how many crates depend on some of them, as ``43 crates for `NAME` `` or
 ``32 for `NAME` ``: each of these numbers is compared, and `--write` writes it.
 
-What a crate is for is the first paragraph of the comment at the top of its `src/lib.rt` or
-`src/main.rt`. "Used by" are the crates that name it. The last line is
+The purpose of a crate is the first paragraph of the comment at the top of its `src/lib.rt` or
+`src/main.rt`. Its dependents are the crates that name it. The last line is
 `crates_page: N passed, M failed`: a crate counts as one, and so does the page."""
 import glob
 import os
@@ -42,8 +42,8 @@ This page is made by `python3 tests/lints/crates_page.py --write`.
 """
 
 
-def rooms():
-    """Returns the rooms of `crates.txt`: the title of each, and its crates with the libraries that
+def sections():
+    """Returns the sections of `crates.txt`: the title of each, and its crates with the libraries that
     they use."""
     found = []
     for line in read("crates.txt").split("\n"):
@@ -62,7 +62,7 @@ def order_faults(found):
     for title, _, crates in found:
         for name, libraries in crates.items():
             below = [it for it in libraries if it in named - above]
-            yield from (f"crates.txt: {name} of the room {title} uses {it}, which stands further down" for it in below)
+            yield from (f"crates.txt: {name} of the section {title} uses {it}, which stands further down" for it in below)
             above.add(name)
 
 
@@ -132,16 +132,16 @@ def page(found):
     for title, about, crates in found:
         out.append(f"\n## {title}\n\n" + textwrap.fill(about[0].upper() + about[1:] + ("" if about.endswith(".") else "."), WIDTH) + "\n")
         for name in crates:
-            by = ", ".join(it.removeprefix("logos_") for it in used.get(name, []))
+            by = ", ".join(f"`{it}`" for it in used.get(name, []))
             out.append("\n" + textwrap.fill(f"**`{name}`**: {purpose(name)}", WIDTH) + "\n")
             if by:
-                out.append(textwrap.fill(f"Used by {by}.", WIDTH) + "\n")
+                out.append(textwrap.fill(f"Dependents: {by}.", WIDTH) + "\n")
     return "".join(out)
 
 
 def main():
     is_written = has_option("--write")
-    found = rooms()
+    found = sections()
     text = page(found)
     guide = with_counts(read(GUIDE), found)
     if is_written:
@@ -149,7 +149,7 @@ def main():
             with open(path, "w", encoding="utf-8") as out:
                 out.write(made)
     named = [name for _, _, crates in found for name in crates]
-    faults = [f"{name} is in no room of crates.txt" for name in sorted(os.listdir(f"{ROOT}/crates"))
+    faults = [f"{name} is in no section of crates.txt" for name in sorted(os.listdir(f"{ROOT}/crates"))
               if os.path.isdir(f"{ROOT}/crates/{name}/src") and name not in named]
     faults += [f"{name} has no comment at its top" for name in named if not purpose(name)]
     faults += [f"{name} is named twice in crates.txt" for name in set(named) if named.count(name) > 1]
