@@ -5,7 +5,7 @@ compares it. Compares the sections and the libraries in `crates.txt` with the cr
   crates_page.py           fails where the page or `crates.txt` differs from the crates
   crates_page.py --write   writes the page
 
-`crates.txt` has a line `# TITLE: CONTENTS` for each section, and below it the crates of the section.
+`crates.txt` has a line `# TITLE: CONTENTS` for each section, and below it the section's crates.
 Each crate is in one section. No crate uses one of a later section, nor one further down in its own.
 The libraries of a crate are those that its `.rt` and `.antt` files cite, as `NAME::` or
 `Rattle.NAME.`, apart from comments: none is missing and none is idle.
@@ -43,8 +43,8 @@ This page is made by `python3 tests/lints/crates_page.py --write`.
 
 
 def sections():
-    """Returns the sections of `crates.txt`: the title of each, and its crates with the libraries that
-    they use."""
+    """Returns the sections of `crates.txt`: the title of each, and its crates with the libraries
+    that they use."""
     found = []
     for line in read("crates.txt").split("\n"):
         title = re.fullmatch(r"# (\w+(?: \w+)*): (.*)", line)
