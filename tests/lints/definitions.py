@@ -176,7 +176,7 @@ class Page:
                 self.add_files(number, crate, folder, text)
             elif text.startswith("- ") and heading == "## Faults, by their codes":
                 self.add_codes(number, text)
-            elif text.startswith("- "):
+            elif text.startswith("|"):
                 self.add_order(number, text)
             else:
                 self.others += [(number, name) for name in re.findall(r"`([^`]*)`", text)]
@@ -205,7 +205,7 @@ class Page:
             self.codes.setdefault(code, []).append((number, names[1], re.findall(r"`(\w+)`", given) or [small]))
 
     def add_order(self, number, text):
-        """Adds the files of a reading order; a name of a crate stands in front of those of its
+        """Adds the files of a table of claims; a name of a crate stands in front of those of its
         `specs`."""
         crate = None
         for name in re.findall(r"`([^`]*)`", text):
