@@ -60,7 +60,8 @@ LIBRARY = {"own_lexer": "lexer_items", "own_chunks": "chunk_items"}
 # The examples, with the type of their tokens.
 EXAMPLES = {"access_log": "Part", "css": "Token", "json": "Token", "mustache": "Part<'static>",
             "pythonic": "Token", "rusty": "Token", "sql": "Token", "toml": "Token<'static>"}
-# The kinds of each set, with what prints the lexer of one, what makes its text, and the MiB of it.
+# The kinds of each set, with the functions that print the lexer and make the text of one, and the
+# MiB of that text.
 SETS = {
     "held": {
         **{kind: (held_rules.source, held.text, 2) for kind in held_rules.KINDS},

@@ -33,11 +33,11 @@ def subtitles(rng):
     for at in range(first, first + rng.randint(6, 20)):
         till = millis + rng.randrange(700, 4500)
         times = (f"{hour:02}:{minute:02}:{it // 1000:02},{it % 1000:03}" for it in (millis, till))
-        millis, said = till + rng.randrange(20, 800), [spoken(rng) for _ in range(rng.choice([1, 1, 2]))]
-        said = [f"- {it}" for it in said] if len(said) == 2 and rng.randrange(2) else said
+        millis, speech = till + rng.randrange(20, 800), [spoken(rng) for _ in range(rng.choice([1, 1, 2]))]
+        speech = [f"- {it}" for it in speech] if len(speech) == 2 and rng.randrange(2) else speech
         if rng.randrange(9) == 0:
-            said[-1] = rng.choice(["<i>{}</i>", "<b>{}</b>", '<font color="#ffff00">{}</font>', "{{\\an8}}{}"]).format(said[-1])
-        lines += [str(at), " --> ".join(times), *said, ""]
+            speech[-1] = rng.choice(["<i>{}</i>", "<b>{}</b>", '<font color="#ffff00">{}</font>', "{{\\an8}}{}"]).format(speech[-1])
+        lines += [str(at), " --> ".join(times), *speech, ""]
         if till > 55000:
             break
     return ends.join(lines) + ends
@@ -71,7 +71,7 @@ def phrase(rng):
         return word(rng, FOREIGN) + rng.choice(PARTICLES)
     if kind < 29:
         return f"{rng.choice(['', '', '', '｜'])}{word(rng, NOUNS)}《{some(rng, KANA, 2, 5)}》{rng.choice(PARTICLES)}"
-    return rng.choice([f"{some(rng, '０１２３４５６７８９', 1, 4)}年", f"※［＃「{word(rng, NOUNS)}」、第{number(rng, 1)}水準{number(rng, 1)}-{number(rng, 2)}-{number(rng, 2)}］", f"『{word(rng, NOUNS)}』", f"{word(rng, FOREIGN)}・{word(rng, FOREIGN)}"])
+    return rng.choice([f"{some(rng, '０１２３４５６７８９', 1, 4)}年", f"{word(rng).capitalize()}{rng.choice(PARTICLES)}", f"（{word(rng, NOUNS)}{word(rng, STEMS)}）", f"※［＃「{word(rng, NOUNS)}」、第{number(rng, 1)}水準{number(rng, 1)}-{number(rng, 2)}-{number(rng, 2)}］", f"『{word(rng, NOUNS)}』", f"{word(rng, FOREIGN)}・{word(rng, FOREIGN)}"])
 
 
 def clause(rng):
@@ -79,7 +79,7 @@ def clause(rng):
 
 
 def aozora(rng):
-    """A paragraph of telling, or of talk, or a heading."""
+    """A paragraph of narration or talk, or a heading."""
     kind = rng.randrange(16)
     if kind == 0:
         return f"［＃{number(rng, 1)}字下げ］{rng.choice('一二三四五六七八九十')}［＃「{word(rng, NOUNS)}」は中見出し］\n\n"
@@ -153,7 +153,7 @@ def joined(numbers):
     return out
 
 
-COUNTS = {"m": 2, "l": 2, "h": 1, "v": 1, "c": 6, "s": 4, "q": 4, "t": 2, "z": 0}
+COUNTS = {"l": 2, "h": 1, "v": 1, "c": 6, "s": 4, "q": 4, "t": 2}
 
 
 def command(rng, letters, most, digits):
@@ -161,6 +161,8 @@ def command(rng, letters, most, digits):
     if name == "a":
         radius = coordinate(rng, most, digits).lstrip("-")
         return f"{rng.choice('aaA')}{radius} {radius} 0 {rng.randrange(2)} {rng.randrange(2)} {joined([coordinate(rng, most, digits) for _ in 'xy'])}"
+    if name == "z":
+        return "zm" + joined([coordinate(rng, most, digits) for _ in "xy"])
     times = rng.choice([1, 1, 1, 2, 3]) if "a" in letters else rng.randint(1, 14)
     name = rng.choice([name, name, name, name.upper()])
     return name + joined([coordinate(rng, most, digits) for _ in range(COUNTS[name.lower()] * times)])
@@ -174,7 +176,8 @@ def vectors(rng):
     start = joined([coordinate(rng, most, digits).lstrip("-") for _ in "xy"])
     parts = [f"M{start}", *(command(rng, letters, most, digits) for _ in range(rng.randint(*count)))]
     if kind == 5:
-        return " ".join(f"{it[0]} {it[1:].replace('-', ' -').strip().replace(' ', ',')}".strip() for it in parts) + f" l 1e-{number(rng, 1)},0 Z\n"
+        spaced = " ".join(f"{it[0]} {it[1:].replace('-', ' -').strip().replace(' ', ',')}" for it in parts)
+        return spaced.replace("z m", "z m ") + f" l 1e-{number(rng, 1)},0 Z\n"
     return "".join(parts) + rng.choice(["z", "z", "Z", ""]) + "\n"
 
 

@@ -142,11 +142,28 @@ def pascal_statement(rng, indent):
         return f"{blanks}case {pascal_value(rng, 1)} of\n{arms}{blanks}else\n{pascal_statement(rng, indent + 1)}{blanks}end;\n"
     if kind == 3:
         return rng.choice([f"{blanks}// {words(rng, 2, 11)}\n", f"{blanks}{{ {words(rng, 2, 11)} }}\n", f"{blanks}(* {words(rng, 2, 9)} *)\n"])
+    if kind == 4 and indent == 1:
+        return pascal_block(rng, blanks, pascal_body(rng, indent + 1))
     if kind == 4 and more:
         return f"{blanks}try\n{pascal_body(rng, indent + 1)}{blanks}finally\n{blanks}  {camel(rng, 2)}.Free;\n{blanks}end;\n"
     if kind < 8:
         return f"{blanks}{camel(rng, 3)}{rng.choice(['', f'.{camel(rng, 2)}'])}({', '.join(pascal_value(rng, 1) for _ in range(rng.randint(1, 3)))});\n"
     return f"{blanks}{camel(rng, 3)}{rng.choice(['', '', f'[{camel(rng, 1)}]', f'.{camel(rng, 1)}'])} := {pascal_value(rng, 3)};\n"
+
+
+def pascal_block(rng, blanks, body):
+    """A loop, or another block that is not frequent."""
+    return rng.choice([
+        f"{blanks}repeat\n{body}{blanks}until {pascal_value(rng, 2)};\n", f"{blanks}while not {pascal_value(rng, 2)} do\n{blanks}begin\n{body}{blanks}end;\n",
+        f"{blanks}with {pascal_value(rng, 0)} do\n{blanks}begin\n{body}{blanks}end;\n", f"{blanks}inherited {camel(rng, 1)}(@{camel(rng, 2)}, [{camel(rng, 1)}]);\n",
+        f"{blanks}try\n{body}{blanks}except\n{blanks}  raise E{camel(rng, 2)}.Create('{words(rng, 2, 6)}');\n{blanks}end;\n"])
+
+
+def pascal_class(rng):
+    methods = "".join(f"    {rng.choice(['procedure', 'function'])} {camel(rng, 3)}({camel(rng, 1)}: Integer){rng.choice([';', ': string;', '; virtual;', '; override;'])}\n" for _ in range(rng.randint(1, 6)))
+    fields = "".join(f"    F{camel(rng, 2)}: {rng.choice(['Integer', 'string', 'Boolean', f'T{camel(rng, 2)}'])};\n" for _ in range(rng.randint(1, 6)))
+    named = f"    property {camel(rng, 2)}: Integer read F{camel(rng, 2)} write Set{camel(rng, 2)};\n"
+    return f"  T{camel(rng, 2)} = class(T{camel(rng, 1)})\n  private\n{fields}  public\n    constructor Create;\n    destructor Destroy; override;\n{methods}{named}  end;\n"
 
 
 def pascal_body(rng, indent):
@@ -156,8 +173,10 @@ def pascal_body(rng, indent):
 def pascal_types(rng):
     lines = [in_a_case(rng, "type") + "\n"]
     for _ in range(rng.randint(1, 6)):
-        kind = rng.randrange(4)
-        if kind == 0:
+        kind = rng.randrange(5)
+        if kind == 4:
+            lines.append(pascal_class(rng))
+        elif kind == 0:
             lines.append(f"  T{camel(rng, 2)} = {pascal_range(rng)};\n")
         elif kind == 1:
             lines.append(f"  T{camel(rng, 2)} = array[{pascal_range(rng)}, {pascal_range(rng)}] of {rng.choice(['Integer', 'Byte', 'Double', 'string'])};\n")
@@ -231,6 +250,8 @@ def makefile(rng):
     if kind == 4:
         head = rng.choice([f"ifeq ($({name.upper()}),{word(rng)})", f"ifdef {name.upper()}", f'ifneq "$({name.upper()})" ""'])
         return f"{head}\n  {snake(rng, 2).upper()} += {make_words(rng, 1, 5)}\nelse\n  {snake(rng, 2).upper()} := {make_call(rng)}\nendif\n\n"
+    if kind == 5 and rng.randrange(4) == 0:
+        return f"define {name.upper()}\n{word(rng)}:: {make_words(rng, 1, 4)}\n\t{make_recipe(rng)}\nendef\n\n"
     if kind == 5:
         return rng.choice([f".PHONY: {word(rng)} {word(rng)} clean\n", f"-include $({word(rng).upper()}:.o=.d)\n", f"include {word(rng)}/{word(rng)}.mk\n", f"export {name.upper()}\n"])
     target = rng.choice([f"%.o: %.c {make_words(rng, 0, 3)}", f"$({name.upper()}): {make_words(rng, 1, 9)} | {word(rng)}", f"{name}: {make_words(rng, 0, 6)}", f"{word(rng)}/{word(rng)}.{word(rng)}: {make_words(rng, 1, 3)}"])

@@ -56,7 +56,7 @@ def shown(tree, of_set, signs):
     if kind == "repetition":
         least, most, _, body = parts
         short = {(0, None): "*", (1, None): "+", (0, 1): "?"}
-        bounds = short.get((least, most), f"{{{least},{most}}}")
+        bounds = short.get((least, most), f"{{{least},{'' if most is None else most}}}")
         return f"({shown(body, of_set, signs)}){bounds}"
     if kind == "literal":
         return "(" + then.join(of_set([(byte, byte)]) for byte in parts[0]) + ")"

@@ -549,7 +549,7 @@ pub enum Token {
     #[regex(r"\*\*|<=|>=|<>|==")]
     Operator,
     #[regex(r"[+\-*/<>=:]")]
-    Sign,
+    Arithmetic,
     #[regex(r"[(),;.]")]
     Punctuation,
 }

@@ -1,4 +1,4 @@
-//! Screens of mailboxes by telephone: control sequences, and text in code page 437. Drawings are errors.
+//! Screens of mailboxes by telephone, in code page 437. Their drawings are errors.
 
 use logos::Logos;
 
