@@ -9,12 +9,12 @@ use crate::trial::trial_counts;
 use logos_code::code::Code;
 use std::alloc::{AllocError, Global};
 
-/// The time that a scan saves for each byte, on texts on which it is faster. All times are in
-/// hundredths of a nanosecond.
-const SAVED: usize = 70;
+/// The time that a scan saves for each byte, on an average text on which it is faster. All times
+/// are in hundredths of a nanosecond.
+const SAVED: usize = 100;
 
-/// The time for folding the row of a state.
-const FOLD: usize = 140_000;
+/// The time for folding the row of a state, into memory that is new.
+const FOLD: usize = 200_000;
 
 /// The time for the walk over one sample.
 const TRIAL: usize = 2_000_000;
