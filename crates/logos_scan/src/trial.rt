@@ -124,7 +124,7 @@ fn chunk_counts(reading: &Reading, at: usize, predictor: &mut Predictor) -> Tria
     walk_chunk(reading.rows, text, root, root, &mut trace);
     TrialCounts {
         again: steps_again(reading.rows, text, root, &trace),
-        ..trace_counts(&trace[..COUNTED], root as u32, predictor)
+        ..trace_counts(&trace, predictor)
     }
 }
 
@@ -141,14 +141,16 @@ pub(crate) fn line_start(part: &[u8]) -> usize
     0
 }
 
-/// Returns the counts of the entries of a walk from the row `root` on, where `again` is 0.
-fn trace_counts(trace: &[u32], root: u32, predictor: &mut Predictor) -> TrialCounts {
+/// Returns the counts of the first entries of a walk, where `again` is 0.
+fn trace_counts(trace: &[u32], predictor: &mut Predictor) -> TrialCounts
+    requires trace { length trace.now ≡ CHUNK }
+{
     let mut counts = TrialCounts {
-        bytes: trace.len(),
+        bytes: COUNTED,
         ..NOTHING
     };
-    let mut section = Section::new(root);
-    for at in 0..trace.len() {
+    let mut section = Section::new(0);
+    for at in 0..COUNTED {
         counts = counts.and(entry_counts(section, trace[at], predictor));
         section = section.after(trace[at]);
     }

@@ -30,7 +30,7 @@ pub(crate) struct Section {
 }
 
 impl Section {
-    /// Returns the section before the first byte of a walk, which begins in the row `row_start`.
+    /// Returns the section before a byte with which it begins, in the row `row_start`.
     pub(crate) fn new(row_start: u32) -> Section {
         Section {
             row_start,
