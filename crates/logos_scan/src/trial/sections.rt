@@ -12,9 +12,6 @@ const NEAR: u32 = 16;
 /// The greatest number of entered states that codes distinguish.
 const MOST_ENTERED: u32 = 7;
 
-/// The number of codes that a predictor stores.
-const STORED: usize = 1024;
-
 /// The multiplier of hashes: 2 to the power of 32, divided by the golden ratio.
 const SPREADING: u32 = 0x9E37_79B1;
 
@@ -112,7 +109,8 @@ impl Predictor {
     /// Returns whether the code of the next section differs from the predicted one, and passes this
     /// section.
     pub(crate) fn misses(&mut self, code: u32) -> bool {
-        let index = (self.history.wrapping_mul(SPREADING) >> 22) as usize % STORED;
+        // The upper ten bits of a product depend on all codes of the history.
+        let index = (self.history.wrapping_mul(SPREADING) >> 22) as usize;
         let predicted = self.codes[index];
         self.codes[index] = code;
         // A code leaves the history after eight others.
