@@ -73,8 +73,8 @@ pub struct TrialCounts {
     pub missed: usize,
     /// The number of bytes that need a repeated attempt.
     pub repeated: usize,
-    /// The number of bytes in whole chunks that are stepped over again, since the row of their block
-    /// was guessed wrong.
+    /// The number of bytes of whole chunks that are stepped over again, since the row of their
+    /// block was guessed wrong.
     pub again: usize,
 }
 
