@@ -365,47 +365,51 @@ trait Blocks<'source>: Tables<'source> {
         let mut row_starts = row_starts;
         let blocks: [&[u8; BLOCK]; BLOCKS] =
             core::array::from_fn(|k| input[k * BLOCK..].first_chunk().expect("a block"));
-        let mut others = 0;
-        for at in (0..BLOCK).step_by(STEPS) {
-            if at % SPAN == 0 {
-                others = high_bits(&blocks, at) | high_bits(&blocks, at + 8);
-                others |= high_bits(&blocks, at + 16);
-            }
-            let part: Option<&mut [u32; CHUNK - BLOCK + STEPS]> = trace[at..].first_chunk_mut();
-            let part = core::hint::black_box(part.expect("a part"));
-            if others != 0 && high_bits(&blocks, at.min(BLOCK - 8)) != 0 {
-                let bytes = blocks.map(|block| block[at..].first_chunk().expect("some bytes"));
+        for at in (0..BLOCK).step_by(SPAN) {
+            let others = high_bits(&blocks, at) | high_bits(&blocks, at + 8);
+            if others | high_bits(&blocks, at + 16) != 0 {
                 // The call has a copy, so that the other steps keep the row offsets in registers.
                 let before = core::hint::black_box(row_starts);
-                let after = core::hint::black_box(Self::step_characters(bytes, part, before));
+                let after = core::hint::black_box(Self::walk_span(input, trace, at, before));
                 row_starts = core::array::from_fn(|k| after[k]);
                 continue;
             }
-            for n in 0..STEPS {
-                for k in 0..BLOCKS {
-                    let entry = Self::entry_in_row(blocks[k][at + n], row_starts[k]);
-                    part[k * BLOCK + n] = entry;
-                    row_starts[k] = entry;
+            for at in (at..at + SPAN).step_by(STEPS) {
+                let part: Option<&mut [u32; CHUNK - BLOCK + STEPS]> = trace[at..].first_chunk_mut();
+                let part = core::hint::black_box(part.expect("a part"));
+                for n in 0..STEPS {
+                    for k in 0..BLOCKS {
+                        let entry = Self::entry_in_row(blocks[k][at + n], row_starts[k]);
+                        part[k * BLOCK + n] = entry;
+                        row_starts[k] = entry;
+                    }
                 }
             }
         }
         row_starts.map(|row_start| row_start & OFFSET_MASK)
     }
 
-    /// Walks over a few bytes of each block, some of which are not ASCII, and sets their entries in
-    /// `part`. Returns the last entry of each block.
+    /// Walks over some bytes of each block, from byte `from` of it on, some of which are not ASCII,
+    /// and sets their entries in `trace`. Returns the last entry of each block.
     #[inline(never)]
-    fn step_characters(
-        bytes: [&[u8; STEPS]; BLOCKS],
-        part: &mut [u32; CHUNK - BLOCK + STEPS],
+    fn walk_span(
+        input: &[u8; CHUNK],
+        trace: &mut [u32; CHUNK],
+        from: usize,
         row_starts: [u32; BLOCKS],
     ) -> [u32; BLOCKS] {
         let mut row_starts = row_starts;
-        for n in 0..STEPS {
-            for k in 0..BLOCKS {
-                let entry = step::<Self>(bytes[k][n], row_starts[k]);
-                part[k * BLOCK + n] = entry;
-                row_starts[k] = entry;
+        for at in (from..from + SPAN).step_by(STEPS) {
+            let bytes: Option<&[u8; CHUNK - BLOCK + STEPS]> = input[at..].first_chunk();
+            let bytes = bytes.expect("a part");
+            let part: Option<&mut [u32; CHUNK - BLOCK + STEPS]> = trace[at..].first_chunk_mut();
+            let part = core::hint::black_box(part.expect("a part"));
+            for n in 0..STEPS {
+                for k in 0..BLOCKS {
+                    let entry = Self::entry_of(bytes[k * BLOCK + n], row_starts[k]);
+                    part[k * BLOCK + n] = entry;
+                    row_starts[k] = entry;
+                }
             }
         }
         row_starts
@@ -449,14 +453,15 @@ trait Blocks<'source>: Tables<'source> {
             core::array::from_fn(|k| input[k * BLOCK..].first_chunk().expect("a block"));
         for from in (0..BLOCK).step_by(PART) {
             for at in (from..from + PART).step_by(STEPS) {
+                if Self::HAS_INSIDES {
+                    if at % SPAN == 0 {
+                        row_starts = Self::walk_span(input, others, at, row_starts);
+                    }
+                    continue;
+                }
                 let part: Option<&mut [u32; CHUNK - BLOCK + STEPS]> =
                     others[at..].first_chunk_mut();
                 let part = core::hint::black_box(part.expect("a part"));
-                if Self::HAS_INSIDES && high_bits(&blocks, at.min(BLOCK - 8)) != 0 {
-                    let bytes = blocks.map(|block| block[at..].first_chunk().expect("some bytes"));
-                    row_starts = Self::step_characters(bytes, part, row_starts);
-                    continue;
-                }
                 for n in 0..STEPS {
                     for k in 1..BLOCKS {
                         let entry = Self::entry_in_row(blocks[k][at + n], row_starts[k]);
