@@ -21,7 +21,8 @@ const NEVER: Leads = 0b11 | !0 << (FOUR.end - FIRST_LEAD);
 
 /// Returns whether a byte stays in a state, according to the characters that stay there.
 pub(crate) const fn stays(leads: Leads, byte: usize) -> bool {
-    leads != NO_LEADS && (continues(byte as u8) || byte >= FIRST_LEAD && leads >> (byte - FIRST_LEAD) & 1 == 1)
+    leads != NO_LEADS
+        && (continues(byte as u8) || byte >= FIRST_LEAD && leads >> (byte - FIRST_LEAD) & 1 == 1)
 }
 
 /// Returns whether a byte begins a character of more than one byte.
@@ -85,6 +86,7 @@ impl<const STATES: usize, const RUNS: usize> Unpacked<STATES, RUNS> {
     ) -> [u32; N] {
         let (mut rows, mut state, by_bytes) = (rows, 0, self.data.by_bytes());
         let over = self.of_classes[self.classes[FIRST_CONTINUATION] as usize] as usize;
+        let columns = self.layout.columns;
         while self.layout.passes && state < STATES {
             let leads = self.leads[state];
             if self.is_inside(state) || by_bytes && leads == NO_LEADS {
@@ -94,12 +96,15 @@ impl<const STATES: usize, const RUNS: usize> Unpacked<STATES, RUNS> {
             let (offset, mut byte) = (self.offset(state, 0), FIRST_CONTINUATION);
             let stay = if folded { offset } else { self.entry(state, 1) };
             let at = head + offset as usize;
+            if !by_bytes {
+                // These bytes have a column of their own, which no class has.
+                let is_none = leads == NO_LEADS;
+                rows[at + columns - 1] = if is_none { rows[at + over] } else { stay };
+                byte = if is_none { END } else { FIRST_LEAD };
+            }
             while byte < END {
-                let index = at + self.layout.column[byte] as usize;
-                if stays(leads, byte) && (by_bytes || continues(byte as u8) || is_lead(byte)) {
-                    rows[index] = stay;
-                } else if !by_bytes && continues(byte as u8) {
-                    rows[index] = rows[at + over];
+                if stays(leads, byte) && (by_bytes || is_lead(byte)) {
+                    rows[at + self.layout.column[byte] as usize] = stay;
                 }
                 byte += 1;
             }
@@ -144,7 +149,10 @@ impl<const STATES: usize, const RUNS: usize> Unpacked<STATES, RUNS> {
                 return false;
             }
             let row = &self.rows[step - 2];
-            if !row.is_inside || row.kinds == 3 || row.bits & valid != 0 && row.bits & valid != valid {
+            if !row.is_inside
+                || row.kinds == 3
+                || row.bits & valid != 0 && row.bits & valid != valid
+            {
                 return false;
             }
             step = row.steps[(row.bits & valid != 0) as usize];

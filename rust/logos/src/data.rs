@@ -281,6 +281,7 @@ impl Data {
             of_classes: [0; SYMBOLS + 1],
         };
         if is_text {
+            unpacked.layout.is_text = true;
             unpacked.leads = unpacked.staying_leads();
         }
         (unpacked.number, unpacked.layout, unpacked.of_classes) = unpacked.laid_out();

@@ -8,6 +8,7 @@
 
 use crate::data::{Row, Unpacked, BYTES, END, SYMBOLS};
 use crate::internal::Tables;
+use crate::rows::NEVER;
 use core::marker::PhantomData;
 
 /// The layout of the rows of a lexer.
@@ -21,7 +22,8 @@ pub struct Layout {
     /// The number of columns of a row, and the column of each symbol.
     pub(crate) columns: usize,
     pub(crate) column: [u16; SYMBOLS],
-    /// Whether characters of more than one byte stay in a state.
+    /// Whether all inputs are UTF-8, and whether characters of more than one byte stay in a state.
+    pub(crate) is_text: bool,
     pub(crate) passes: bool,
 }
 
@@ -41,12 +43,17 @@ pub struct Inside {
 /// The number of bytes from 0x80 to 0xBF.
 pub(crate) const CONTINUATIONS: usize = 64;
 pub(crate) const FIRST_CONTINUATION: usize = 0x80;
-/// The steps of states with a row.
+/// The value for states with a row.
 pub(crate) const NO_INSIDE: Inside = Inside {
     bits: 0,
     first: 0,
     mask: 0,
     row_mask: -1,
+};
+/// The value for states without a row, before their steps are known.
+const NO_STEPS: Inside = Inside {
+    row_mask: 0,
+    ..NO_INSIDE
 };
 
 /// Returns whether a byte can continue a character.
@@ -96,6 +103,7 @@ impl Layout {
         root: 0,
         columns: 0,
         column: [0; SYMBOLS],
+        is_text: false,
         passes: false,
     };
 }
@@ -141,8 +149,8 @@ impl<'s, T, const STATES: usize, const RUNS: usize> Parts<'s, T>
 where
     T: Tables<'s, Unpacked = Unpacked<STATES, RUNS>>,
 {
-    const ROWS: Sets<STATES> = T::UNPACKED.row_sets();
-    const FOLDED: Sets<STATES> = T::UNPACKED.folded_sets();
+    const ROWS: Sets<STATES> = T::UNPACKED.row_sets(T::LASTS);
+    const FOLDED: Sets<STATES> = T::UNPACKED.folded_sets(T::LASTS);
 }
 
 /// The tables of a lexer with `N` entries, as constants.
@@ -240,6 +248,7 @@ impl<const STATES: usize, const RUNS: usize> Unpacked<STATES, RUNS> {
             },
             root: number[self.data.root] as usize,
             column,
+            is_text: self.layout.is_text,
             passes,
         };
         (number, layout, of_classes)
@@ -303,19 +312,48 @@ impl<const STATES: usize, const RUNS: usize> Unpacked<STATES, RUNS> {
         by_numbers
     }
 
-    /// Returns the steps of the states without a row, whose entries begin at the index `first`.
-    pub(crate) const fn sets(&self, first: usize) -> Sets<STATES> {
+    /// Returns the steps of the states without a row, whose entries begin at the index `first`,
+    /// given the last match in each state. States share the two entries of one step and of no step.
+    pub(crate) const fn sets(&self, first: usize, lasts: &[u32]) -> Sets<STATES> {
         let (mut sets, mut state, rows) = (Sets::NONE, 0, self.layout.rows);
+        let mut shared = [[0; 2]; STATES];
         while self.layout.insides > 0 && state < STATES {
-            let number = self.number[state] as usize;
-            if number >= rows {
-                let (inside, entries) = self.rows[state].inside(first + sets.entries);
-                sets.insides[number - rows] = inside;
-                sets.entries += entries;
+            let (number, row) = (self.number[state] as usize, &self.rows[state]);
+            let (next, bits) = row.only_step();
+            if number < rows {
+                state += 1;
+                continue;
             }
+            let mut index = (first + sets.entries) as u32;
+            if next < 2 || self.marks[state] != 0 {
+                sets.insides[number - rows] = row.inside(index);
+                sets.entries += if row.kinds < 3 { 2 } else { CONTINUATIONS };
+                state += 1;
+                continue;
+            }
+            let is_never = (lasts[state] == NEVER) as usize;
+            if shared[next - 2][is_never] == 0 {
+                shared[next - 2][is_never] = index;
+                sets.entries += 2;
+            }
+            index = shared[next - 2][is_never];
+            sets.insides[number - rows] = Inside {
+                bits,
+                first: index,
+                ..NO_STEPS
+            };
             state += 1;
         }
         sets
+    }
+
+    /// Returns the steps of the two entries of a state without a row.
+    pub(crate) const fn steps_of(&self, state: usize) -> [usize; 2] {
+        let row = &self.rows[state];
+        match row.only_step() {
+            (next, _) if next >= 2 && self.marks[state] == 0 => [0, next],
+            _ => row.steps,
+        }
     }
 
     /// Returns the row offset of a state. States without a row have the offsets from `first` on.
@@ -338,17 +376,33 @@ impl<const STATES: usize> Sets<STATES> {
 
 impl Row {
     /// Returns the steps of a state without a row that has this row in generated code, with entries
-    /// from the index `first` on, and their number.
-    pub(crate) const fn inside(&self, first: usize) -> (Inside, usize) {
-        let is_set = self.kinds < 3;
-        let inside = Inside {
-            bits: if is_set { self.bits } else { 0 },
-            first: first as u32,
-            mask: if is_set { 0 } else { CONTINUATIONS as u8 - 1 },
-            row_mask: 0,
-        };
-        let entries = if is_set { 2 } else { CONTINUATIONS };
-        (inside, entries)
+    /// from the index `first` on.
+    const fn inside(&self, first: u32) -> Inside {
+        if self.kinds < 3 {
+            let bits = self.bits;
+            return Inside {
+                bits,
+                first,
+                ..NO_STEPS
+            };
+        }
+        let mask = CONTINUATIONS as u8 - 1;
+        Inside {
+            first,
+            mask,
+            ..NO_STEPS
+        }
+    }
+
+    /// Returns the step of the bytes that continue a character, if all that lead to a state have
+    /// the same one, and the bits of these bytes. Otherwise returns 0.
+    pub(crate) const fn only_step(&self) -> (usize, u64) {
+        match (self.kinds, self.steps) {
+            (1, [next, _]) => (next, !0),
+            (2, [0, next]) => (next, self.bits),
+            (2, [next, 0]) => (next, !self.bits),
+            _ => (0, 0),
+        }
     }
 }
 

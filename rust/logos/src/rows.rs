@@ -5,7 +5,7 @@
 //! kind, and its lower bits are the number of a leaf or of a loop.
 
 use crate::data::{Unpacked, SYMBOLS};
-use crate::layout::{Inside, Sets, CONTINUATIONS, FIRST_CONTINUATION, NO_INSIDE};
+use crate::layout::{Inside, Layout, Sets, CONTINUATIONS, FIRST_CONTINUATION, NO_INSIDE};
 
 const KIND_BIT: u32 = 29;
 const ONE_KIND: u32 = 1 << KIND_BIT;
@@ -43,7 +43,10 @@ impl<const STATES: usize, const RUNS: usize> Unpacked<STATES, RUNS> {
 
     /// Returns the index in the rows at which the entries of states without a row begin.
     const fn insides_start(&self) -> usize {
-        self.first_inside() + self.layout.insides + 256
+        let Layout {
+            insides, is_text, ..
+        } = self.layout;
+        self.first_inside() + 256 + if is_text { 0 } else { insides }
     }
 
     /// Returns the offset of the first state without a row.
@@ -75,8 +78,9 @@ impl<const STATES: usize, const RUNS: usize> Unpacked<STATES, RUNS> {
                 &NO_INSIDE
             };
             if is_inside && set.mask == 0 {
-                rows[set.first as usize] = self.entry(state, row.steps[0]);
-                rows[set.first as usize + 1] = self.entry(state, row.steps[1]);
+                let [one, other] = self.steps_of(state);
+                rows[set.first as usize] = self.entry(state, one);
+                rows[set.first as usize + 1] = self.entry(state, other);
                 state += 1;
                 continue;
             }
@@ -116,8 +120,8 @@ impl<const STATES: usize, const RUNS: usize> Unpacked<STATES, RUNS> {
     }
 
     /// Returns the steps of the states without a row.
-    pub(crate) const fn row_sets(&self) -> Sets<STATES> {
-        self.sets(self.insides_start())
+    pub(crate) const fn row_sets(&self, lasts: &[u32]) -> Sets<STATES> {
+        self.sets(self.insides_start(), lasts)
     }
 
     /// Returns the entry of `step` in `state`.
