@@ -365,54 +365,81 @@ trait Blocks<'source>: Tables<'source> {
         let mut row_starts = row_starts;
         let blocks: [&[u8; BLOCK]; BLOCKS] =
             core::array::from_fn(|k| input[k * BLOCK..].first_chunk().expect("a block"));
-        for at in (0..BLOCK).step_by(SPAN) {
-            let others = high_bits(&blocks, at) | high_bits(&blocks, at + 8);
-            if others | high_bits(&blocks, at + 16) != 0 {
-                // The call has a copy, so that the other steps keep the row offsets in registers.
-                let before = core::hint::black_box(row_starts);
-                let after = core::hint::black_box(Self::walk_span(input, trace, at, before));
-                row_starts = core::array::from_fn(|k| after[k]);
-                continue;
-            }
-            for at in (at..at + SPAN).step_by(STEPS) {
-                let part: Option<&mut [u32; CHUNK - BLOCK + STEPS]> = trace[at..].first_chunk_mut();
-                let part = core::hint::black_box(part.expect("a part"));
-                for n in 0..STEPS {
-                    for k in 0..BLOCKS {
-                        let entry = Self::entry_in_row(blocks[k][at + n], row_starts[k]);
-                        part[k * BLOCK + n] = entry;
-                        row_starts[k] = entry;
-                    }
+        let (mut at, mut ascii_to) = (0, 0);
+        while at < BLOCK {
+            if at >= ascii_to {
+                let span = at.min(BLOCK - SPAN);
+                let others = high_bits(&blocks, span) | high_bits(&blocks, span + 8);
+                let is_ascii = others | high_bits(&blocks, span + 16) == 0;
+                if !is_ascii && high_bits(&blocks, at.min(BLOCK - 8)) != 0 {
+                    // The call has a copy, so that the other steps keep the row offsets in
+                    // registers.
+                    let before = core::hint::black_box(row_starts);
+                    let after = Self::step_characters(input, trace, at..BLOCK, before);
+                    let (after, to) = core::hint::black_box(after);
+                    row_starts = core::array::from_fn(|k| after[k]);
+                    at = to;
+                    continue;
                 }
+                ascii_to = if is_ascii { span + SPAN } else { at + STEPS };
             }
-        }
-        row_starts.map(|row_start| row_start & OFFSET_MASK)
-    }
-
-    /// Walks over some bytes of each block, from byte `from` of it on, some of which are not ASCII,
-    /// and sets their entries in `trace`. Returns the last entry of each block.
-    #[inline(never)]
-    fn walk_span(
-        input: &[u8; CHUNK],
-        trace: &mut [u32; CHUNK],
-        from: usize,
-        row_starts: [u32; BLOCKS],
-    ) -> [u32; BLOCKS] {
-        let mut row_starts = row_starts;
-        for at in (from..from + SPAN).step_by(STEPS) {
-            let bytes: Option<&[u8; CHUNK - BLOCK + STEPS]> = input[at..].first_chunk();
-            let bytes = bytes.expect("a part");
             let part: Option<&mut [u32; CHUNK - BLOCK + STEPS]> = trace[at..].first_chunk_mut();
             let part = core::hint::black_box(part.expect("a part"));
             for n in 0..STEPS {
                 for k in 0..BLOCKS {
-                    let entry = Self::entry_of(bytes[k * BLOCK + n], row_starts[k]);
+                    let entry = Self::entry_in_row(blocks[k][at + n], row_starts[k]);
                     part[k * BLOCK + n] = entry;
                     row_starts[k] = entry;
                 }
             }
+            at += STEPS;
         }
-        row_starts
+        row_starts.map(|row_start| row_start & OFFSET_MASK)
+    }
+
+    /// Walks over the bytes in `range` of each block, of which some of the first ones are not
+    /// ASCII, and sets their entries in `trace`. Ends before bytes that are ASCII in all blocks.
+    /// Returns the last entry of each block, and the end.
+    #[inline(never)]
+    fn step_characters(
+        input: &[u8; CHUNK],
+        trace: &mut [u32; CHUNK],
+        range: Span,
+        row_starts: [u32; BLOCKS],
+    ) -> ([u32; BLOCKS], usize) {
+        let (mut row_starts, mut at) = (row_starts, range.start);
+        let blocks: [&[u8; BLOCK]; BLOCKS] =
+            core::array::from_fn(|k| input[k * BLOCK..].first_chunk().expect("a block"));
+        while at < range.end {
+            let others = high_bits(&blocks, at.min(BLOCK - 8));
+            if others == 0 {
+                break;
+            }
+            let bytes: Option<&[u8; CHUNK - BLOCK + STEPS]> = input[at..].first_chunk();
+            let bytes = bytes.expect("a part");
+            let part: Option<&mut [u32; CHUNK - BLOCK + STEPS]> = trace[at..].first_chunk_mut();
+            let part = core::hint::black_box(part.expect("a part"));
+            // Of the eight bytes of all blocks that were examined, more than half are not ASCII: in
+            // text of other scripts no branch between the kinds of states can be predicted.
+            let is_dense = others.count_ones() > 4;
+            for n in 0..STEPS {
+                if is_dense {
+                    for k in 0..BLOCKS {
+                        let entry = Self::entry_in_text(bytes[k * BLOCK + n], row_starts[k]);
+                        part[k * BLOCK + n] = entry;
+                        row_starts[k] = entry;
+                    }
+                    continue;
+                }
+                for k in 0..BLOCKS {
+                    let entry = step::<Self>(bytes[k * BLOCK + n], row_starts[k]);
+                    part[k * BLOCK + n] = entry;
+                    row_starts[k] = entry;
+                }
+            }
+            at += STEPS;
+        }
+        (row_starts, at)
     }
 
     /// Walks over parts of `size` bytes in parallel, each from its row, and sets their entries in
@@ -428,9 +455,14 @@ trait Blocks<'source>: Tables<'source> {
         let parts: [&[u8]; BLOCKS] = core::array::from_fn(|k| &rest[k * size..(k + 1) * size]);
         let mut traces = trace.chunks_exact_mut(size);
         let traces: [&mut [u32]; BLOCKS] = core::array::from_fn(|_| traces.next().expect("a part"));
+        let is_ascii = !Self::HAS_INSIDES || rest.is_ascii();
         for at in 0..size {
             for k in 0..BLOCKS {
-                let entry = step::<Self>(parts[k][at], row_starts[k]);
+                let entry = if is_ascii {
+                    Self::entry_in_row(parts[k][at], row_starts[k])
+                } else {
+                    Self::entry_in_text(parts[k][at], row_starts[k])
+                };
                 traces[k][at] = entry;
                 row_starts[k] = entry;
             }
@@ -453,10 +485,9 @@ trait Blocks<'source>: Tables<'source> {
             core::array::from_fn(|k| input[k * BLOCK..].first_chunk().expect("a block"));
         for from in (0..BLOCK).step_by(PART) {
             for at in (from..from + PART).step_by(STEPS) {
-                if Self::HAS_INSIDES {
-                    if at % SPAN == 0 {
-                        row_starts = Self::walk_span(input, others, at, row_starts);
-                    }
+                if Self::HAS_INSIDES && high_bits(&blocks, at.min(BLOCK - 8)) != 0 {
+                    (row_starts, _) =
+                        Self::step_characters(input, others, at..at + STEPS, row_starts);
                     continue;
                 }
                 let part: Option<&mut [u32; CHUNK - BLOCK + STEPS]> =
