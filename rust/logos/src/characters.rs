@@ -1,8 +1,10 @@
-//! The characters that stay in a state. Used by `data`, `loops`, `rows` and `folded`.
+//! The characters that stay in a state, such as those of a comment. Used by `data`, `layout`,
+//! `loops`, `rows` and `folded`.
 //!
-//! If all inputs are UTF-8, a loop passes characters of more than one byte like the bytes that stay:
-//! if each character that begins with a byte leads from a state back to it, that byte stays, and so
-//! do the bytes that continue a character.
+//! If all inputs are UTF-8, a loop passes characters of more than one byte as it passes the bytes
+//! that stay. If all characters that begin with a byte lead from a state back to it, that byte
+//! stays, and so do the bytes that continue a character. Bytes that are in no text stay too: so the
+//! bytes that stay are in few ranges.
 
 use crate::data::{Unpacked, END, SYMBOLS};
 use crate::layout::{continues, FIRST_CONTINUATION};
@@ -13,8 +15,8 @@ pub(crate) const NO_LEADS: Leads = 0;
 
 /// The least byte with a bit in [`Leads`].
 const FIRST_LEAD: usize = 0xC0;
-/// The bytes that begin characters of two, of three and of four bytes, and the bytes from
-/// [`FIRST_LEAD`] on that are in no text.
+/// The bytes that begin characters of two bytes and of four, and the bytes from [`FIRST_LEAD`] on
+/// that are in no text.
 const TWO: core::ops::Range<usize> = 0xC2..0xE0;
 const FOUR: core::ops::Range<usize> = 0xF0..0xF5;
 const NEVER: Leads = 0b11 | !0 << (FOUR.end - FIRST_LEAD);
@@ -30,7 +32,7 @@ const fn is_lead(byte: usize) -> bool {
     byte >= TWO.start && byte < FOUR.end
 }
 
-/// Returns the bits of the bytes that follow `lead` in text.
+/// Returns the bits of the bytes from 0x80 to 0xBF that follow `lead` in text.
 const fn second(lead: usize) -> u64 {
     match lead {
         0xE0 => !0 << 32,
@@ -42,8 +44,9 @@ const fn second(lead: usize) -> u64 {
 }
 
 impl<const STATES: usize, const RUNS: usize> Unpacked<STATES, RUNS> {
-    /// Returns the characters that stay in each state, of those states in which a byte stays.
-    /// States with one loop have equal ones.
+    /// Returns the characters that stay in each state. They are in the loops over bytes that stay:
+    /// so there are none in a state in which no byte stays, and states that share a loop have equal
+    /// ones. There are none at all if a byte that continues a character is read between characters.
     pub(crate) const fn staying_leads(&self) -> [Leads; STATES] {
         let (mut by_loop, mut leads, mut state) = ([!NO_LEADS; STATES], [NO_LEADS; STATES], 0);
         while state < STATES {

@@ -1,10 +1,11 @@
-//! The layout of tables: which states have a row, and the columns of rows. Used by `run`, `rows`
-//! and `folded`.
+//! The layout of tables: which states have a row, and the columns of rows. Used by `run`, `rows`,
+//! `folded` and `characters`.
 //!
 //! If a lexer has many states, most of them are between the bytes of a character: only bytes from
 //! 0x80 to 0xBF lead on from there, and mostly to one or two states. Such a state has no row, but a
-//! set of these bytes: see [`Inside`]. The columns of rows are then the classes of the symbols in
-//! the states that have rows. Otherwise each state has a row, with an entry for each byte.
+//! set of these bytes with two entries among the rows, or an entry for each of them: see
+//! [`Inside`]. The columns of rows are then the classes of the symbols in the states that have
+//! rows. Otherwise each state has a row, with an entry for each byte.
 
 use crate::data::{Row, Unpacked, BYTES, END, SYMBOLS};
 use crate::internal::Tables;

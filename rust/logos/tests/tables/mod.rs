@@ -5,8 +5,8 @@ use logos::{Lexer, Logos, Span};
 use std::sync::OnceLock;
 
 /// The classes: other ASCII, letters, `(`, blanks, digits, `.`, `<`, four bytes of characters, `#`,
-/// symbols that end a comment or are in no text, other bytes that continue a character, by what
-/// they can follow, and other bytes that begin one.
+/// symbols that end a comment or are in no text, three ranges of bytes that continue a character,
+/// and other bytes that begin one.
 const CLASSES: [u8; 257] = {
     let (mut classes, mut byte) = ([0; 257], 0);
     while byte < 257 {
