@@ -1,9 +1,10 @@
 #!/usr/bin/env python3
 """Measures `Token::lexer` on lexers and texts on which nothing was fitted. The variable SET selects
-them: `held`, which stands for no variable, those of bench/inputs/held_rules.py and the eight of
-examples/lexers; `fresh`, those of bench/held/rules, on which nothing was measured while constants
-were chosen. Change no constant of the runtime by what this script prints; `bench/lexer.py` has the
-texts for that.
+them. `held`, which is taken without that variable, has the lexers of bench/inputs/held_rules.py,
+those of bench/held/rules whose texts bench/inputs/held_more.py makes, and the eight of
+examples/lexers; constants were fitted on some of them since. `fresh` has those whose texts
+bench/inputs/fresh.py makes, on which nothing was measured while constants were chosen. Change no
+constant of the runtime by what this script prints; `bench/lexer.py` has the texts for that.
 
   python3 bench/held.py [RUNS [KIND..]]
 
@@ -15,10 +16,10 @@ and `state_machine`. In C these are the scanners by flex (-CF, -Cf), re2c (-b, -
 as their users build the fast ones. Those of examples/lexers have callbacks and Unicode names, and
 so none in C.
 
-A text has 2 MiB, and 4 MiB in the set `fresh`, and no part of it is repeated as a whole. It is read
-as a whole, and in fresh pieces that end with lines: single lines, and of at least 256 bytes, 1, 4
-and 16 KiB. Each piece has a lexer of its own. Programs take turns in an order of chance, and the
-fastest run counts: of six, if no number is given.
+A text has 4 MiB if its lexer is in bench/held/rules, and else 2 MiB, and no part of it is repeated
+as a whole. It is read as a whole, and in fresh pieces that end with lines: single lines, and of at
+least 256 bytes, 1, 4 and 16 KiB. Each piece has a lexer of its own. Programs take turns in an order
+of chance, and the fastest run counts: of six, if no number is given.
 
 The variable LEXER names the program of bench/lexer, built by `bench/lexer.py`: then the library's
 own `Lexer` and its run by chunks are measured on the same whole texts, but for those of the
@@ -44,12 +45,8 @@ from concurrent.futures import ThreadPoolExecutor
 
 import scanners
 from common import BENCH, ROOT, Room, Runs, print_means, print_table, said_by, shown, write
-from inputs import fresh, fresh_rules, held, held_rules
+from inputs import fresh, held, held_more, held_rules, rule_files
 
-# The texts, the rules and the MiB of a text of each set.
-SETS = {"held": (held, held_rules, 2), "fresh": (fresh, fresh_rules, 4)}
-SET = os.environ.get("SET", "held")
-TEXTS, RULES, MIB = SETS[SET]
 SHAPES = ["tailcall", "state_machine"]
 FLAGS = {"flex": ("-CF", "-Cf"), "re2c": ("-b", "-g"), "ragel": ("-G2",)}
 IN_C = [f"{tool}{flag}" for tool, flags in FLAGS.items() for flag in flags]
@@ -63,7 +60,17 @@ LIBRARY = {"own_lexer": "lexer_items", "own_chunks": "chunk_items"}
 # The examples, with the type of their tokens.
 EXAMPLES = {"access_log": "Part", "css": "Token", "json": "Token", "mustache": "Part<'static>",
             "pythonic": "Token", "rusty": "Token", "sql": "Token", "toml": "Token<'static>"}
-KINDS = [*RULES.KINDS, *(f"examples/{name}" for name in EXAMPLES if SET == "held")]
+# The kinds of each set, with the functions that print the lexer and make the text of one, and the
+# MiB of that text.
+SETS = {
+    "held": {
+        **{kind: (held_rules.source, held.text, 2) for kind in held_rules.KINDS},
+        **{kind: (rule_files.source, held_more.text, 4) for kind in held_more.KINDS},
+        **{f"examples/{name}": (None, held.text, 2) for name in EXAMPLES},
+    },
+    "fresh": {kind: (rule_files.source, fresh.text, 4) for kind in fresh.KINDS},
+}
+KINDS = SETS[os.environ.get("SET", "held")]
 # For the means of whole texts, and of pieces: a program, and by which others its speed is shown.
 RATIOS = {
     "lexer by the faster shape": ("lexer", SHAPES),
@@ -90,9 +97,9 @@ def logos_cli():
 
 def lay_out(folder, cli, kind, shape):
     """Writes the parts of the program of a kind and a shape. Returns their paths."""
-    name = kind.removeprefix("examples/")
-    if name == kind:
-        write(f"{folder}/source.rs", RULES.source(kind, "rust"))
+    name, source = kind.removeprefix("examples/"), KINDS[kind][0]
+    if source:
+        write(f"{folder}/source.rs", source(kind, "rust"))
     else:
         os.makedirs(folder, exist_ok=True)
         shutil.copy(f"{ROOT}/examples/lexers/{name}.rs", f"{folder}/source.rs")
@@ -103,7 +110,7 @@ def lay_out(folder, cli, kind, shape):
 
 def compiled(room, kind, cli, library, other):
     """Compiles all programs of a kind. Returns their paths by their names."""
-    name, found = kind.replace("/", "_"), {}
+    name, rules_of, found = kind.replace("/", "_"), KINDS[kind][0], {}
     for shape in ["tables", *SHAPES]:
         parts = lay_out(f"{room.folder}/{name}.{shape}.source", cli, kind, shape)
         for way, words in (TABLES if shape == "tables" else {shape: ()}).items():
@@ -114,9 +121,9 @@ def compiled(room, kind, cli, library, other):
         for way, words in OTHER.items():
             main = f"{BENCH}/held/main.rs"
             found[way] = scanners.in_rust(room, f"{name}.{way}", parts, main, other, SECONDS, words)
-    for tool in (it for it in FLAGS if kind in RULES.KINDS and shutil.which(it)):
+    for tool in (it for it in FLAGS if rules_of and shutil.which(it)):
         source = f"{room.folder}/{name}.{tool}.source"
-        write(source, RULES.source(kind, tool))
+        write(source, rules_of(kind, tool))
         for flag in FLAGS[tool]:
             way = f"{tool}{flag}"
             found[way] = scanners.in_c(room, f"{name}.{way}", [tool, flag], source, f"{BENCH}/held")
@@ -125,7 +132,7 @@ def compiled(room, kind, cli, library, other):
 
 def write_enum(path, kind):
     """Writes the enum of a new kind alone."""
-    lines = RULES.source(kind, "rust").splitlines(keepends=True)
+    lines = KINDS[kind][0](kind, "rust").splitlines(keepends=True)
     first = next(n for n, line in enumerate(lines) if line.startswith("#[derive("))
     write(path, "".join(lines[first:lines.index("}\n", first) + 1]))
 
@@ -133,7 +140,7 @@ def write_enum(path, kind):
 def library_commands(room, kind, path):
     """Returns the commands that measure the library on a text, and which of them it chooses."""
     lexer = os.environ.get("LEXER")
-    if not lexer or kind not in RULES.KINDS:
+    if not lexer or not KINDS[kind][0]:
         return {}, None
     enum = f"{room.folder}/{kind}.enum.rs"
     write_enum(enum, kind)
@@ -190,11 +197,13 @@ def print_pieces(runs, names, kinds):
         print_ratios(runs, names, piece, kinds)
 
 
-def write_text(room, kind, size):
+def write_text(room, kind):
     """Writes the text of a kind, if it is not there. Returns its path."""
+    _, text, mib = KINDS[kind]
+    size = int(os.environ.get("SIZE", mib << 20))
     path = room.path(f"{kind.replace('/', '_')}.{size}.text", *sorted(glob.glob(f"{BENCH}/inputs/*.py")))
     if not os.path.exists(path):
-        write(path, TEXTS.text(kind, size))
+        write(path, text(kind, size))
     return path
 
 
@@ -213,7 +222,7 @@ def print_whole(runs, paths, all_ways):
 
 
 def main(count=6, *kinds):
-    room, runs, size = Room(), Runs(), int(os.environ.get("SIZE", MIB << 20))
+    room, runs = Room(), Runs()
     names = {kind: kind.replace("/", "_") for kind in kinds or KINDS}
     cli = logos_cli()
     runtime = scanners.runtime(f"{room.folder}/liblogos.rlib")
@@ -222,7 +231,7 @@ def main(count=6, *kinds):
     with ThreadPoolExecutor(int(os.environ.get("JOBS", 2))) as pool:
         jobs = [pool.submit(compiled, room, kind, cli, runtime, other) for kind in names]
         all_ways = {name: job.result() for name, job in zip(names.values(), jobs)}
-    paths = {name: write_text(room, kind, size) for kind, name in names.items()}
+    paths = {name: write_text(room, kind) for kind, name in names.items()}
     library = {name: library_commands(room, kind, paths[name]) for kind, name in names.items()}
     runs.sizes = {name: os.path.getsize(path) for name, path in paths.items()}
     for _ in range(int(count)):

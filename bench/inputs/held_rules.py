@@ -56,12 +56,13 @@ def shown(tree, of_set, signs):
     if kind == "repetition":
         least, most, _, body = parts
         short = {(0, None): "*", (1, None): "+", (0, 1): "?"}
-        bounds = short.get((least, most), f"{{{least},{most}}}")
+        bounds = short.get((least, most), f"{{{least},{'' if most is None else most}}}")
         return f"({shown(body, of_set, signs)}){bounds}"
     if kind == "literal":
         return "(" + then.join(of_set([(byte, byte)]) for byte in parts[0]) + ")"
     if kind == "class":
-        found = sequences(without(parts[0], [(0, 0)]))
+        ranges, of_characters = without(parts[0], [(0, 0)]), parts[1]
+        found = sequences(ranges) if of_characters else [(it,) for it in ranges]
         alone = [it[0] for it in found if len(it) == 1]
         several = (then.join(of_set([it]) for it in one) for one in found if len(one) > 1)
         return "(" + either.join([*[of_set(alone)] * bool(alone), *several]) + ")"

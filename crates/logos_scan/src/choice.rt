@@ -9,12 +9,15 @@ use crate::trial::trial_counts;
 use logos_code::code::Code;
 use std::alloc::{AllocError, Global};
 
-/// The length in bytes of the shortest input that is scanned by chunks.
-const SHORTEST: usize = 16_384;
+/// The time that a scan saves for each byte, on an average text on which it is faster. All times
+/// are in hundredths of a nanosecond.
+const SAVED: usize = 100;
 
-/// The number of bytes that an input needs for each state of a code, so that folding the rows of
-/// the code can pay.
-const WORTH: usize = 4_096;
+/// The time for folding the row of a state, into memory that is new.
+const FOLD: usize = 200_000;
+
+/// The time for the walk over one sample.
+const TRIAL: usize = 2_000_000;
 
 /// Returns the folded rows of a code if a scan by chunks likely takes less time on the input than a
 /// lexer. Returns `None` otherwise, or if the code has too many states for folded rows. Any result
@@ -30,8 +33,7 @@ pub fn rows_for<'c, 's>(
 ) -> Result<Option<Folded<'c, 's>>, AllocError>
     ensures { IfOk result (λ rows. IfSome rows (λ folded. folded.code ≡ code.now)) }
 {
-    let is_short = input.len() < SHORTEST || input.len() / WORTH < code.parts().states.len();
-    if is_short {
+    if is_short(code, input) {
         return Ok(None);
     }
     let Some(folded) = Folded::new(alloc, code)? else {
@@ -43,4 +45,11 @@ pub fn rows_for<'c, 's>(
     } else {
         Ok(None)
     }
+}
+
+/// Returns whether the input is too short for a scan to save the time for the folded rows of the
+/// code and for a sample.
+fn is_short(code: &Code, input: &[u8]) -> bool {
+    let states = code.parts().states.len();
+    SAVED.wrapping_mul(input.len()) < FOLD.wrapping_mul(states).wrapping_add(TRIAL)
 }

@@ -5,7 +5,10 @@ ghost use Rattle.std.specs.Prelude.{◌≡◌, ◌<◌, ◌≤◌, ◌+◌, ◌*
 ghost use Rattle.logos_scan.specs.Views.{IsReading};
 ghost use Rattle.logos_scan.specs.walk.Views.{IsClosed, IsRowStart};
 
+pub mod sections;
+
 use crate::run::Reading;
+use crate::trial::sections::{Predictor, Section};
 use crate::walk::blocks::{BLOCK, BLOCKS, CHUNK, walk_chunk};
 use crate::walk::guess::guess_row_starts;
 use crate::walk::{ENDED, OFFSET_MASK, TOKEN, entry_of};
@@ -16,45 +19,62 @@ const SPREAD: usize = 64 * CHUNK;
 /// The greatest number of chunks that are walked over.
 const MOST: usize = 8;
 
+/// The number of bytes of each chunk that are counted, except those that are stepped over again:
+/// counting takes longer than the walk.
+const COUNTED: usize = 2 * BLOCK;
+
 /// The cost of each byte, for a scan. All costs are fitted on measured texts, in hundredths of a
 /// nanosecond, and only their ratios matter.
 const STEP: usize = 90;
 
-/// The cost of each byte before which a match ends, for a scan.
-const END: usize = 193;
+/// The cost of each pending entry, for a scan.
+const PENDING: usize = 270;
 
-/// The cost of each byte that is stepped over again, for a scan.
-const AGAIN: usize = 204;
+/// The cost of each byte that is stepped over again, for a scan. It is a third of the fitted cost,
+/// since only a third of each chunk is counted otherwise.
+const AGAIN: usize = 76;
 
 /// The cost of each attempt that is repeated, for a scan.
-const REPEAT: usize = 5_180;
+const REPEAT: usize = 4_860;
 
 /// The cost of each byte, for a lexer.
-const BYTE: usize = 20;
+const BYTE: usize = 23;
 
 /// The cost of each match, for a lexer.
-const MATCH: usize = 400;
+const MATCH: usize = 142;
 
-/// The cost of each state that is entered, for a lexer.
-const ENTRY: usize = 325;
+/// The cost of each state that is entered within an attempt, for a lexer.
+const ENTRY: usize = 131;
 
-/// The number of bytes such that a lexer is faster if matches end before more than three of them,
-/// since processors predict such matches.
-const ALMOST_ALL: usize = 4;
+/// The cost of each fast loop, for a lexer.
+const LOOP: usize = 455;
+
+/// The cost of each section that processors likely predict wrong, for a lexer.
+const MISS: usize = 866;
+
+/// The cost of each attempt that is repeated, for a lexer: it returns to its last mark, or ends in
+/// an error.
+const RETURN: usize = 1_370;
 
 /// The counts of walks over chunks of an input.
 #[derive(Clone, Copy, Drop)]
 pub struct TrialCounts {
-    /// The number of bytes that were walked over.
+    /// The number of bytes that were counted.
     pub bytes: usize,
     /// The number of bytes before which a match ends.
     pub ends: usize,
-    /// The number of bytes that lead to another row than the byte before.
+    /// The number of these matches that are not skipped.
+    pub tokens: usize,
+    /// The number of bytes that lead to another row within an attempt.
     pub entered: usize,
+    /// The number of runs of bytes that stay in a row.
+    pub loops: usize,
+    /// The number of sections of attempts that are predicted wrong.
+    pub missed: usize,
     /// The number of bytes that need a repeated attempt.
     pub repeated: usize,
-    /// The number of bytes that are stepped over again, since the row of their block was guessed
-    /// wrong.
+    /// The number of bytes of whole chunks that are stepped over again, since the row of their
+    /// block was guessed wrong.
     pub again: usize,
 }
 
@@ -62,7 +82,10 @@ pub struct TrialCounts {
 const NOTHING: TrialCounts = TrialCounts {
     bytes: 0,
     ends: 0,
+    tokens: 0,
     entered: 0,
+    loops: 0,
+    missed: 0,
     repeated: 0,
     again: 0,
 };
@@ -79,9 +102,10 @@ pub fn trial_counts(reading: &Reading) -> TrialCounts
     if part < 2 * CHUNK {
         return counts;
     }
+    let mut predictor = Predictor::new();
     let mut at = 0;
     while len - at >= part {
-        counts = counts.and(chunk_counts(reading, at));
+        counts = counts.and(chunk_counts(reading, at, &mut predictor));
         at += part;
     }
     counts
@@ -89,7 +113,7 @@ pub fn trial_counts(reading: &Reading) -> TrialCounts
 
 /// Returns the counts of a walk over one chunk of bytes, which begins after the first line end
 /// among the `CHUNK` bytes from `at` on, or at `at` if there is none.
-fn chunk_counts(reading: &Reading, at: usize) -> TrialCounts
+fn chunk_counts(reading: &Reading, at: usize, predictor: &mut Predictor) -> TrialCounts
     requires reading { IsReading reading.now }
     requires at { at + 2 * CHUNK ≤ length reading.now.input.now }
 {
@@ -100,7 +124,7 @@ fn chunk_counts(reading: &Reading, at: usize) -> TrialCounts
     walk_chunk(reading.rows, text, root, root, &mut trace);
     TrialCounts {
         again: steps_again(reading.rows, text, root, &trace),
-        ..trace_counts(&trace)
+        ..trace_counts(&trace, predictor)
     }
 }
 
@@ -117,25 +141,45 @@ pub(crate) fn line_start(part: &[u8]) -> usize
     0
 }
 
-/// Returns the counts of the entries of a walk, where `again` is 0.
-fn trace_counts(trace: &[u32]) -> TrialCounts {
+/// Returns the counts of the first entries of a walk, where `again` is 0.
+fn trace_counts(trace: &[u32], predictor: &mut Predictor) -> TrialCounts
+    requires trace { length trace.now ≡ CHUNK }
+{
     let mut counts = TrialCounts {
-        bytes: trace.len(),
+        bytes: COUNTED,
         ..NOTHING
     };
-    let mut before = 0;
-    for at in 0..trace.len() {
-        let entry = trace[at];
-        let row_start = entry & OFFSET_MASK;
-        counts = counts.and(TrialCounts {
-            ends: (entry & ENDED != 0) as usize,
-            entered: (row_start != before) as usize,
-            repeated: (entry & (ENDED | TOKEN) == TOKEN) as usize,
-            ..NOTHING
-        });
-        before = row_start;
+    let mut section = Section::new(0);
+    for at in 0..COUNTED {
+        counts = counts.and(entry_counts(section, trace[at], predictor));
+        section = section.after(trace[at]);
     }
     counts
+}
+
+/// Returns the counts of one entry after a section, where `bytes` and `again` are 0.
+#[inline(always)]
+fn entry_counts(section: Section, entry: u32, predictor: &mut Predictor) -> TrialCounts {
+    TrialCounts {
+        ends: (entry & ENDED != 0) as usize,
+        tokens: (entry >= (ENDED | TOKEN)) as usize,
+        entered: section.enters_row(entry) as usize,
+        loops: section.begins_loop(entry) as usize,
+        missed: missed(section, entry, predictor),
+        repeated: (entry & (ENDED | TOKEN) == TOKEN) as usize,
+        ..NOTHING
+    }
+}
+
+/// Returns 1 if the section ends before the byte of the entry and is predicted wrong, and otherwise
+/// 0.
+#[inline(always)]
+fn missed(section: Section, entry: u32, predictor: &mut Predictor) -> usize {
+    if section.ends_at(entry) {
+        predictor.misses(section.code(entry)) as usize
+    } else {
+        0
+    }
 }
 
 /// Returns the number of bytes of a chunk that were stepped over again. `trace` has the entries of
@@ -184,7 +228,10 @@ impl TrialCounts {
         TrialCounts {
             bytes: self.bytes.wrapping_add(found.bytes),
             ends: self.ends.wrapping_add(found.ends),
+            tokens: self.tokens.wrapping_add(found.tokens),
             entered: self.entered.wrapping_add(found.entered),
+            loops: self.loops.wrapping_add(found.loops),
+            missed: self.missed.wrapping_add(found.missed),
             repeated: self.repeated.wrapping_add(found.repeated),
             again: self.again.wrapping_add(found.again),
         }
@@ -192,16 +239,24 @@ impl TrialCounts {
 
     /// Returns whether a scan likely takes less time than a lexer on an input with these counts.
     pub fn suit_scans(self) -> bool {
-        let lexer = BYTE
-            .wrapping_mul(self.bytes)
-            .wrapping_add(MATCH.wrapping_mul(self.ends))
-            .wrapping_add(ENTRY.wrapping_mul(self.entered));
-        let scan = STEP
-            .wrapping_mul(self.bytes)
-            .wrapping_add(END.wrapping_mul(self.ends))
+        self.scan_cost() < self.lexer_cost()
+    }
+
+    /// Returns the estimated cost of a scan over the samples.
+    fn scan_cost(self) -> usize {
+        STEP.wrapping_mul(self.bytes)
+            .wrapping_add(PENDING.wrapping_mul(self.tokens))
             .wrapping_add(AGAIN.wrapping_mul(self.again))
-            .wrapping_add(REPEAT.wrapping_mul(self.repeated));
-        let is_plain = ALMOST_ALL.wrapping_mul(self.ends) > self.bytes.wrapping_mul(3);
-        !is_plain & (scan < lexer)
+            .wrapping_add(REPEAT.wrapping_mul(self.repeated))
+    }
+
+    /// Returns the estimated cost of a lexer on the samples.
+    fn lexer_cost(self) -> usize {
+        BYTE.wrapping_mul(self.bytes)
+            .wrapping_add(MATCH.wrapping_mul(self.ends))
+            .wrapping_add(ENTRY.wrapping_mul(self.entered))
+            .wrapping_add(LOOP.wrapping_mul(self.loops))
+            .wrapping_add(MISS.wrapping_mul(self.missed))
+            .wrapping_add(RETURN.wrapping_mul(self.repeated))
     }
 }

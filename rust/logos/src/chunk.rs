@@ -365,22 +365,26 @@ trait Blocks<'source>: Tables<'source> {
         let mut row_starts = row_starts;
         let blocks: [&[u8; BLOCK]; BLOCKS] =
             core::array::from_fn(|k| input[k * BLOCK..].first_chunk().expect("a block"));
-        let mut others = 0;
-        for at in (0..BLOCK).step_by(STEPS) {
-            if at % SPAN == 0 {
-                others = high_bits(&blocks, at) | high_bits(&blocks, at + 8);
-                others |= high_bits(&blocks, at + 16);
+        let (mut at, mut ascii_to) = (0, 0);
+        while at < BLOCK {
+            if at >= ascii_to {
+                let span = at.min(BLOCK - SPAN);
+                let others = high_bits(&blocks, span) | high_bits(&blocks, span + 8);
+                let is_ascii = others | high_bits(&blocks, span + 16) == 0;
+                if !is_ascii && high_bits(&blocks, at.min(BLOCK - 8)) != 0 {
+                    // The call has a copy, so that the other steps keep the row offsets in
+                    // registers.
+                    let before = core::hint::black_box(row_starts);
+                    let after = Self::step_characters(input, trace, at..BLOCK, before);
+                    let (after, to) = core::hint::black_box(after);
+                    row_starts = core::array::from_fn(|k| after[k]);
+                    at = to;
+                    continue;
+                }
+                ascii_to = if is_ascii { span + SPAN } else { at + STEPS };
             }
             let part: Option<&mut [u32; CHUNK - BLOCK + STEPS]> = trace[at..].first_chunk_mut();
             let part = core::hint::black_box(part.expect("a part"));
-            if others != 0 && high_bits(&blocks, at.min(BLOCK - 8)) != 0 {
-                let bytes = blocks.map(|block| block[at..].first_chunk().expect("some bytes"));
-                // The call has a copy, so that the other steps keep the row offsets in registers.
-                let before = core::hint::black_box(row_starts);
-                let after = core::hint::black_box(Self::step_characters(bytes, part, before));
-                row_starts = core::array::from_fn(|k| after[k]);
-                continue;
-            }
             for n in 0..STEPS {
                 for k in 0..BLOCKS {
                     let entry = Self::entry_in_row(blocks[k][at + n], row_starts[k]);
@@ -388,27 +392,54 @@ trait Blocks<'source>: Tables<'source> {
                     row_starts[k] = entry;
                 }
             }
+            at += STEPS;
         }
         row_starts.map(|row_start| row_start & OFFSET_MASK)
     }
 
-    /// Walks over a few bytes of each block, some of which are not ASCII, and sets their entries in
-    /// `part`. Returns the last entry of each block.
+    /// Walks over the bytes in `range` of each block, of which some of the first ones are not
+    /// ASCII, and sets their entries in `trace`. Ends before bytes that are ASCII in all blocks.
+    /// Returns the last entry of each block, and the end.
     #[inline(never)]
     fn step_characters(
-        bytes: [&[u8; STEPS]; BLOCKS],
-        part: &mut [u32; CHUNK - BLOCK + STEPS],
+        input: &[u8; CHUNK],
+        trace: &mut [u32; CHUNK],
+        range: Span,
         row_starts: [u32; BLOCKS],
-    ) -> [u32; BLOCKS] {
-        let mut row_starts = row_starts;
-        for n in 0..STEPS {
-            for k in 0..BLOCKS {
-                let entry = step::<Self>(bytes[k][n], row_starts[k]);
-                part[k * BLOCK + n] = entry;
-                row_starts[k] = entry;
+    ) -> ([u32; BLOCKS], usize) {
+        let (mut row_starts, mut at) = (row_starts, range.start);
+        let blocks: [&[u8; BLOCK]; BLOCKS] =
+            core::array::from_fn(|k| input[k * BLOCK..].first_chunk().expect("a block"));
+        while at < range.end {
+            let others = high_bits(&blocks, at.min(BLOCK - 8));
+            if others == 0 {
+                break;
             }
+            let bytes: Option<&[u8; CHUNK - BLOCK + STEPS]> = input[at..].first_chunk();
+            let bytes = bytes.expect("a part");
+            let part: Option<&mut [u32; CHUNK - BLOCK + STEPS]> = trace[at..].first_chunk_mut();
+            let part = core::hint::black_box(part.expect("a part"));
+            // Of the eight bytes of all blocks that were examined, more than half are not ASCII: in
+            // text of other scripts no branch between the kinds of states can be predicted.
+            let is_dense = others.count_ones() > 4;
+            for n in 0..STEPS {
+                if is_dense {
+                    for k in 0..BLOCKS {
+                        let entry = Self::entry_in_text(bytes[k * BLOCK + n], row_starts[k]);
+                        part[k * BLOCK + n] = entry;
+                        row_starts[k] = entry;
+                    }
+                    continue;
+                }
+                for k in 0..BLOCKS {
+                    let entry = step::<Self>(bytes[k * BLOCK + n], row_starts[k]);
+                    part[k * BLOCK + n] = entry;
+                    row_starts[k] = entry;
+                }
+            }
+            at += STEPS;
         }
-        row_starts
+        (row_starts, at)
     }
 
     /// Walks over parts of `size` bytes in parallel, each from its row, and sets their entries in
@@ -424,9 +455,14 @@ trait Blocks<'source>: Tables<'source> {
         let parts: [&[u8]; BLOCKS] = core::array::from_fn(|k| &rest[k * size..(k + 1) * size]);
         let mut traces = trace.chunks_exact_mut(size);
         let traces: [&mut [u32]; BLOCKS] = core::array::from_fn(|_| traces.next().expect("a part"));
+        let is_ascii = !Self::HAS_INSIDES || rest.is_ascii();
         for at in 0..size {
             for k in 0..BLOCKS {
-                let entry = step::<Self>(parts[k][at], row_starts[k]);
+                let entry = if is_ascii {
+                    Self::entry_in_row(parts[k][at], row_starts[k])
+                } else {
+                    Self::entry_in_text(parts[k][at], row_starts[k])
+                };
                 traces[k][at] = entry;
                 row_starts[k] = entry;
             }
@@ -449,14 +485,14 @@ trait Blocks<'source>: Tables<'source> {
             core::array::from_fn(|k| input[k * BLOCK..].first_chunk().expect("a block"));
         for from in (0..BLOCK).step_by(PART) {
             for at in (from..from + PART).step_by(STEPS) {
+                if Self::HAS_INSIDES && high_bits(&blocks, at.min(BLOCK - 8)) != 0 {
+                    (row_starts, _) =
+                        Self::step_characters(input, others, at..at + STEPS, row_starts);
+                    continue;
+                }
                 let part: Option<&mut [u32; CHUNK - BLOCK + STEPS]> =
                     others[at..].first_chunk_mut();
                 let part = core::hint::black_box(part.expect("a part"));
-                if Self::HAS_INSIDES && high_bits(&blocks, at.min(BLOCK - 8)) != 0 {
-                    let bytes = blocks.map(|block| block[at..].first_chunk().expect("some bytes"));
-                    row_starts = Self::step_characters(bytes, part, row_starts);
-                    continue;
-                }
                 for n in 0..STEPS {
                     for k in 1..BLOCKS {
                         let entry = Self::entry_in_row(blocks[k][at + n], row_starts[k]);

@@ -1,9 +1,11 @@
 //! The tables of a lexer in the form of generated code, and unpacked. Used by `rows`, `folded`,
 //! `loops` and `layout`.
 
+use crate::characters::{Leads, NO_LEADS};
 use crate::internal::Tables;
 use crate::layout::{continuing, others_before, Layout};
 use crate::loops::Mask;
+use crate::Source;
 
 /// The number of symbols: each byte, and the end of the input.
 pub(crate) const SYMBOLS: usize = 257;
@@ -75,6 +77,8 @@ pub(crate) struct Row {
     pub(crate) staying: u16,
     /// The number of earlier rows in which a byte stays.
     pub(crate) number: usize,
+    /// Whether a byte that continues a character leads to a state.
+    pub(crate) continues: bool,
 }
 
 /// The tables of a lexer, unpacked. They exist only at compile time.
@@ -87,6 +91,8 @@ pub struct Unpacked<const STATES: usize, const RUNS: usize> {
     pub(crate) rows: [Row; STATES],
     /// The mark of each state.
     pub(crate) marks: [u32; STATES],
+    /// The characters that stay in each state.
+    pub(crate) leads: [Leads; STATES],
     /// The number of distinct rows in which a byte stays.
     pub(crate) loops: usize,
     /// The number of each state, the layout of the rows, and the column of each class.
@@ -103,6 +109,7 @@ impl Unpacked<0, 0> {
         runs: [],
         rows: [],
         marks: [],
+        leads: [],
         loops: 0,
         number: [],
         layout: Layout::NONE,
@@ -120,7 +127,7 @@ impl Unpacked<0, 0> {
 impl<const STATES: usize, const RUNS: usize> Unpacked<STATES, RUNS> {
     /// Returns the tables of the lexer of `T`, unpacked.
     pub const fn new<'source, T: Tables<'source>>() -> Self {
-        T::DATA.unpacked()
+        T::DATA.unpacked(<T::Source as Source>::IS_TEXT)
     }
 
     /// Returns the rows of a lexer if they have an entry for each byte: an entry for each state and
@@ -237,13 +244,16 @@ impl Data {
         classes
     }
 
-    /// Returns these tables unpacked.
+    /// Returns these tables unpacked. `is_text` is whether all inputs are UTF-8.
     ///
     /// # Panics
     ///
     /// Panics if `STATES` and `RUNS` are not the numbers of the states and of the runs, or if the
     /// tables name a class, a row, a state or a leaf that does not exist.
-    const fn unpacked<const STATES: usize, const RUNS: usize>(&self) -> Unpacked<STATES, RUNS> {
+    const fn unpacked<const STATES: usize, const RUNS: usize>(
+        &self,
+        is_text: bool,
+    ) -> Unpacked<STATES, RUNS> {
         assert!(STATES == self.states() && STATES == count(&self.marks));
         let (classes, runs) = (self.classes(), self.runs());
         let before = [bytes_before(&classes), others_before(&classes)];
@@ -264,11 +274,16 @@ impl Data {
             runs,
             rows,
             marks,
+            leads: [NO_LEADS; STATES],
             loops,
             number: [0; STATES],
             layout: Layout::NONE,
             of_classes: [0; SYMBOLS + 1],
         };
+        if is_text {
+            unpacked.layout.is_text = true;
+            unpacked.leads = unpacked.staying_leads();
+        }
         (unpacked.number, unpacked.layout, unpacked.of_classes) = unpacked.laid_out();
         unpacked
     }
@@ -319,11 +334,12 @@ impl Data {
             bits: 0,
             staying: 0,
             number,
+            continues: false,
         }; STATES];
         while run < runs.len() {
             let (mut leads, mut staying, mut class, mut is_inside) = (false, 0, 0, true);
             let (mut steps, mut kinds, mut set) = ([0; 2], 0, 0);
-            let first = (run, passed);
+            let (mut continues, first) = (false, (run, passed));
             while class < width {
                 let Run { length, step } = runs[run];
                 let (mut end, next) = (class + length - passed, run + 1);
@@ -333,9 +349,10 @@ impl Data {
                     (run, passed) = (next, 0);
                 }
                 leads |= step != 0;
+                let bits = continuing[end] & !continuing[class];
+                continues |= step != 0 && bits != 0;
                 if is_inside {
                     is_inside = step == 0 || step != 1 && others[end] == others[class];
-                    let bits = continuing[end] & !continuing[class];
                     let is_known = kinds > 0 && step == steps[0];
                     if bits != 0 && kinds < 3 && !is_known {
                         if kinds == 0 {
@@ -362,6 +379,7 @@ impl Data {
                 bits: set,
                 staying,
                 number,
+                continues,
             };
             number += (staying > 0) as usize;
             height += 1;

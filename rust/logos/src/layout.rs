@@ -1,13 +1,15 @@
-//! The layout of tables: which states have a row, and the columns of rows. Used by `run`, `rows`
-//! and `folded`.
+//! The layout of tables: which states have a row, and the columns of rows. Used by `run`, `rows`,
+//! `folded` and `characters`.
 //!
 //! If a lexer has many states, most of them are between the bytes of a character: only bytes from
 //! 0x80 to 0xBF lead on from there, and mostly to one or two states. Such a state has no row, but a
-//! set of these bytes: see [`Inside`]. The columns of rows are then the classes of the symbols in
-//! the states that have rows. Otherwise each state has a row, with an entry for each byte.
+//! set of these bytes with two entries among the rows, or an entry for each of them: see
+//! [`Inside`]. The columns of rows are then the classes of the symbols in the states that have
+//! rows. Otherwise each state has a row, with an entry for each byte.
 
-use crate::data::{Unpacked, BYTES, END, SYMBOLS};
+use crate::data::{Row, Unpacked, BYTES, END, SYMBOLS};
 use crate::internal::Tables;
+use crate::rows::NEVER;
 use core::marker::PhantomData;
 
 /// The layout of the rows of a lexer.
@@ -21,23 +23,38 @@ pub struct Layout {
     /// The number of columns of a row, and the column of each symbol.
     pub(crate) columns: usize,
     pub(crate) column: [u16; SYMBOLS],
+    /// Whether all inputs are UTF-8, and whether characters of more than one byte stay in a state.
+    pub(crate) is_text: bool,
+    pub(crate) passes: bool,
 }
 
-/// The steps of a state that has no row: two entries, and for each byte from 0x80 to 0xBF a bit
-/// that chooses between them. If the state has more than two distinct entries, both numbers are the
-/// index of the entry of byte 0x80 among the rows.
+/// The steps of a state that has no row, of bytes from 0x80 to 0xBF: the index of the first entry,
+/// to which the bits of `mask` in the byte and the byte's bit in `bits` are added. A state with at
+/// most two distinct entries has the mask 0, and the bytes of its second entry in `bits`. Another
+/// one has the entry of each byte, and no bits.
 #[derive(Clone, Copy)]
 pub struct Inside {
     pub(crate) bits: u64,
-    pub(crate) entries: [u32; 2],
+    pub(crate) first: u32,
+    pub(crate) mask: u8,
+    /// The mask for the index of an entry in a row: 0, or in [`NO_INSIDE`] all bits.
+    pub(crate) row_mask: i8,
 }
 
 /// The number of bytes from 0x80 to 0xBF.
 pub(crate) const CONTINUATIONS: usize = 64;
 pub(crate) const FIRST_CONTINUATION: usize = 0x80;
+/// The value for states with a row.
 pub(crate) const NO_INSIDE: Inside = Inside {
     bits: 0,
-    entries: [0, 0],
+    first: 0,
+    mask: 0,
+    row_mask: -1,
+};
+/// The value for states without a row, before their steps are known.
+const NO_STEPS: Inside = Inside {
+    row_mask: 0,
+    ..NO_INSIDE
 };
 
 /// Returns whether a byte can continue a character.
@@ -47,24 +64,12 @@ pub(crate) const fn continues(byte: u8) -> bool {
 }
 
 impl Inside {
-    /// Returns whether the state has at most two distinct entries, which are then in `entries`.
+    /// Returns the index among the rows of the entry of `byte`, from 0x80 to 0xBF. There is no
+    /// branch, since none can be predicted in text of other scripts.
     #[inline(always)]
-    pub(crate) const fn is_set(&self) -> bool {
-        self.entries[0] != self.entries[1]
-    }
-
-    /// Returns the entry of `byte`, from 0x80 to 0xBF, in a state with at most two distinct
-    /// entries.
-    #[inline(always)]
-    pub(crate) const fn entry(&self, byte: u8) -> u32 {
-        self.entries[(self.bits >> (byte % CONTINUATIONS as u8) & 1) as usize]
-    }
-
-    /// Returns the index among the rows of the entry of `byte`, from 0x80 to 0xBF, in a state with
-    /// more than two distinct entries.
-    #[inline(always)]
-    pub(crate) const fn index(&self, byte: usize) -> usize {
-        self.entries[0] as usize + byte % CONTINUATIONS
+    pub(crate) const fn index(&self, byte: u8) -> usize {
+        let bit = (self.bits >> (byte % CONTINUATIONS as u8)) as u32 & 1;
+        (self.first + (byte & self.mask) as u32 + bit) as usize
     }
 }
 
@@ -86,11 +91,10 @@ pub trait Made<'source> {
     const WALKED_INSIDES: &'static [Inside];
 }
 
-/// The steps of the states without a row, and the number of such states with entries among the
-/// rows.
+/// The steps of the states without a row, and the number of their entries among the rows.
 pub(crate) struct Sets<const STATES: usize> {
     pub(crate) insides: [Inside; STATES],
-    pub(crate) many: usize,
+    pub(crate) entries: usize,
 }
 
 impl Layout {
@@ -100,6 +104,8 @@ impl Layout {
         root: 0,
         columns: 0,
         column: [0; SYMBOLS],
+        is_text: false,
+        passes: false,
     };
 }
 
@@ -112,7 +118,7 @@ where
     const ENTRIES: &'static [u32] = if T::DATA.by_bytes() {
         printed_rows::<T>()
     } else {
-        rows_of_size::<T, STATES, RUNS>(T::UNPACKED.rows_len(Parts::<'_, T>::ROWS.many))
+        rows_of_size::<T, STATES, RUNS>(T::UNPACKED.rows_len(Parts::<'_, T>::ROWS.entries))
     };
     const INSIDES: &'static [Inside] = &Parts::<'_, T>::ROWS.insides;
     const LAST_MATCHES: &'static [u32] = &T::UNPACKED.by_numbers(T::LASTS);
@@ -120,7 +126,7 @@ where
     const WALKED: &'static [u32] = if T::DATA.by_bytes() {
         printed_folded::<T>()
     } else {
-        folded_of_size::<T, STATES, RUNS>(T::UNPACKED.folded_len(Parts::<'_, T>::FOLDED.many))
+        folded_of_size::<T, STATES, RUNS>(T::UNPACKED.folded_len(Parts::<'_, T>::FOLDED.entries))
     };
     const WALKED_INSIDES: &'static [Inside] = &Parts::<'_, T>::FOLDED.insides;
 }
@@ -144,7 +150,7 @@ impl<'s, T, const STATES: usize, const RUNS: usize> Parts<'s, T>
 where
     T: Tables<'s, Unpacked = Unpacked<STATES, RUNS>>,
 {
-    const ROWS: Sets<STATES> = T::UNPACKED.row_sets();
+    const ROWS: Sets<STATES> = T::UNPACKED.row_sets(T::LASTS);
     const FOLDED: Sets<STATES> = T::UNPACKED.folded_sets(T::LASTS);
 }
 
@@ -220,10 +226,14 @@ impl<const STATES: usize, const RUNS: usize> Unpacked<STATES, RUNS> {
             state += 1;
         }
         let of_classes = self.columns_of_classes(&number, rows as u32);
-        let by_bytes = self.data.by_bytes();
+        let (by_bytes, passes) = (self.data.by_bytes(), self.passes());
+        let by_classes = of_classes[self.data.width];
         while symbol < SYMBOLS {
             column[symbol] = if by_bytes {
                 symbol as u16
+            } else if passes && symbol != END && continues(symbol as u8) {
+                // In the classes of these bytes there can be others, which do not stay.
+                by_classes
             } else {
                 of_classes[self.classes[symbol] as usize]
             };
@@ -235,10 +245,12 @@ impl<const STATES: usize, const RUNS: usize> Unpacked<STATES, RUNS> {
             columns: if by_bytes {
                 BYTES
             } else {
-                of_classes[self.data.width] as usize
+                by_classes as usize + passes as usize
             },
             root: number[self.data.root] as usize,
             column,
+            is_text: self.layout.is_text,
+            passes,
         };
         (number, layout, of_classes)
     }
@@ -301,6 +313,50 @@ impl<const STATES: usize, const RUNS: usize> Unpacked<STATES, RUNS> {
         by_numbers
     }
 
+    /// Returns the steps of the states without a row, whose entries begin at the index `first`,
+    /// given the last match in each state. States share the two entries of one step and of no step.
+    pub(crate) const fn sets(&self, first: usize, lasts: &[u32]) -> Sets<STATES> {
+        let (mut sets, mut state, rows) = (Sets::NONE, 0, self.layout.rows);
+        let mut shared = [[0; 2]; STATES];
+        while self.layout.insides > 0 && state < STATES {
+            let (number, row) = (self.number[state] as usize, &self.rows[state]);
+            let (next, bits) = row.only_step();
+            if number < rows {
+                state += 1;
+                continue;
+            }
+            let mut index = (first + sets.entries) as u32;
+            if next < 2 || self.marks[state] != 0 {
+                sets.insides[number - rows] = row.inside(index);
+                sets.entries += if row.kinds < 3 { 2 } else { CONTINUATIONS };
+                state += 1;
+                continue;
+            }
+            let is_never = (lasts[state] == NEVER) as usize;
+            if shared[next - 2][is_never] == 0 {
+                shared[next - 2][is_never] = index;
+                sets.entries += 2;
+            }
+            index = shared[next - 2][is_never];
+            sets.insides[number - rows] = Inside {
+                bits,
+                first: index,
+                ..NO_STEPS
+            };
+            state += 1;
+        }
+        sets
+    }
+
+    /// Returns the steps of the two entries of a state without a row.
+    pub(crate) const fn steps_of(&self, state: usize) -> [usize; 2] {
+        let row = &self.rows[state];
+        match row.only_step() {
+            (next, _) if next >= 2 && self.marks[state] == 0 => [0, next],
+            _ => row.steps,
+        }
+    }
+
     /// Returns the row offset of a state. States without a row have the offsets from `first` on.
     pub(crate) const fn offset(&self, state: usize, first: usize) -> u32 {
         let (number, Layout { rows, columns, .. }) = (self.number[state] as usize, &self.layout);
@@ -315,30 +371,39 @@ impl<const STATES: usize> Sets<STATES> {
     /// The value before the steps of any state are made.
     pub(crate) const NONE: Sets<STATES> = Sets {
         insides: [NO_INSIDE; STATES],
-        many: 0,
+        entries: 0,
     };
 }
 
-impl Inside {
-    /// Returns the steps of a state whose entries are among the rows, from `index` on.
-    pub(crate) const fn at(index: usize) -> Inside {
+impl Row {
+    /// Returns the steps of a state without a row that has this row in generated code, with entries
+    /// from the index `first` on.
+    const fn inside(&self, first: u32) -> Inside {
+        if self.kinds < 3 {
+            let bits = self.bits;
+            return Inside {
+                bits,
+                first,
+                ..NO_STEPS
+            };
+        }
+        let mask = CONTINUATIONS as u8 - 1;
         Inside {
-            bits: 0,
-            entries: [index as u32; 2],
+            first,
+            mask,
+            ..NO_STEPS
         }
     }
 
-    /// Returns the steps of a state with one or two distinct entries, given the bits of the second
-    /// one.
-    pub(crate) const fn of(entries: [u32; 2], bits: u64) -> Inside {
-        let [one, other] = entries;
-        if bits == 0 || one == other {
-            return Inside {
-                bits: 0,
-                entries: [one, !one],
-            };
+    /// Returns the step of the bytes that continue a character, if all that lead to a state have
+    /// the same one, and the bits of these bytes. Otherwise returns 0.
+    pub(crate) const fn only_step(&self) -> (usize, u64) {
+        match (self.kinds, self.steps) {
+            (1, [next, _]) => (next, !0),
+            (2, [0, next]) => (next, self.bits),
+            (2, [next, 0]) => (next, !self.bits),
+            _ => (0, 0),
         }
-        Inside { bits, entries }
     }
 }
 

@@ -28,6 +28,7 @@ extern crate std;
 mod ahead;
 #[cfg(not(feature = "std"))]
 mod alone;
+mod characters;
 #[cfg(feature = "std")]
 mod chunk;
 mod data;

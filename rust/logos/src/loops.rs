@@ -1,7 +1,8 @@
 //! The loops over bytes that stay in a state: their tables, and the search for the end of these
 //! bytes. Used by `run`.
 
-use crate::data::{Unpacked, END, SYMBOLS};
+use crate::characters;
+use crate::data::{Row, Unpacked, END, SYMBOLS};
 use crate::internal::Tables;
 
 /// The mask of a loop: for each byte eight zeros if it stays in the state, otherwise eight numbers
@@ -39,7 +40,7 @@ impl<const STATES: usize, const RUNS: usize> Unpacked<STATES, RUNS> {
         while state < STATES {
             let row = &self.rows[state];
             if row.staying > 0 && row.number == done {
-                masks[done] = self.mask(row.run, row.passed);
+                masks[done] = self.mask(state);
                 done += 1;
             }
             state += 1;
@@ -48,8 +49,9 @@ impl<const STATES: usize, const RUNS: usize> Unpacked<STATES, RUNS> {
         masks
     }
 
-    /// Returns the mask of the row whose steps begin in the run `run`, after `passed` of its steps.
-    const fn mask(&self, run: usize, passed: usize) -> Mask {
+    /// Returns the mask of the loop of a state.
+    const fn mask(&self, state: usize) -> Mask {
+        let Row { run, passed, .. } = self.rows[state];
         let (mut stays, mut class, mut run, mut passed) = ([false; SYMBOLS], 0, run, passed);
         while class < self.data.width {
             let end = class + self.runs[run].length - passed;
@@ -61,7 +63,7 @@ impl<const STATES: usize, const RUNS: usize> Unpacked<STATES, RUNS> {
         }
         let (mut mask, mut byte) = ([EACH; 256], 0);
         while byte < END {
-            if stays[self.classes[byte] as usize] {
+            if stays[self.classes[byte] as usize] || characters::stays(self.leads[state], byte) {
                 mask[byte] = [0; 8];
             }
             byte += 1;

@@ -5,7 +5,7 @@
 //! kind, and its lower bits are the number of a leaf or of a loop.
 
 use crate::data::{Unpacked, SYMBOLS};
-use crate::layout::{Inside, Sets, CONTINUATIONS, FIRST_CONTINUATION, NO_INSIDE};
+use crate::layout::{Inside, Layout, Sets, CONTINUATIONS, FIRST_CONTINUATION, NO_INSIDE};
 
 const KIND_BIT: u32 = 29;
 const ONE_KIND: u32 = 1 << KIND_BIT;
@@ -36,15 +36,17 @@ pub(crate) const FORTH: u32 = 128;
 const FARTHEST: u32 = 30;
 
 impl<const STATES: usize, const RUNS: usize> Unpacked<STATES, RUNS> {
-    /// Returns the number of entries of the rows, where the entries of `many` states without a row
-    /// are among the rows.
-    pub(crate) const fn rows_len(&self, many: usize) -> usize {
-        self.many_start() + many * CONTINUATIONS
+    /// Returns the number of entries of the rows, where the states without a row have `entries`.
+    pub(crate) const fn rows_len(&self, entries: usize) -> usize {
+        self.insides_start() + entries
     }
 
     /// Returns the index in the rows at which the entries of states without a row begin.
-    const fn many_start(&self) -> usize {
-        self.first_inside() + self.layout.insides + 256
+    const fn insides_start(&self) -> usize {
+        let Layout {
+            insides, is_text, ..
+        } = self.layout;
+        self.first_inside() + 256 + if is_text { 0 } else { insides }
     }
 
     /// Returns the offset of the first state without a row.
@@ -61,8 +63,8 @@ impl<const STATES: usize, const RUNS: usize> Unpacked<STATES, RUNS> {
     /// Panics if there are more entries than `N`, or more entries or leaves than an entry can
     /// number.
     pub(crate) const fn all_rows<const N: usize>(&self, insides: &[Inside]) -> [u32; N] {
-        assert!(N >= self.many_start(), "the number of the entries");
-        assert!(self.many_start() < STAYS as usize, "too many entries");
+        assert!(N >= self.insides_start(), "the number of the entries");
+        assert!(self.insides_start() < STAYS as usize, "too many entries");
         assert!(self.data.leaves() <= NUMBERS as usize, "too many leaves");
         let (mut rows, mut state) = ([NOWHERE; N], 0);
         let (by_bytes, width, runs) = (self.data.by_bytes(), self.data.width, &self.runs);
@@ -75,7 +77,10 @@ impl<const STATES: usize, const RUNS: usize> Unpacked<STATES, RUNS> {
             } else {
                 &NO_INSIDE
             };
-            if is_inside && set.is_set() {
+            if is_inside && set.mask == 0 {
+                let [one, other] = self.steps_of(state);
+                rows[set.first as usize] = self.entry(state, one);
+                rows[set.first as usize + 1] = self.entry(state, other);
                 state += 1;
                 continue;
             }
@@ -106,34 +111,21 @@ impl<const STATES: usize, const RUNS: usize> Unpacked<STATES, RUNS> {
             }
             while is_inside && symbol < CONTINUATIONS {
                 let class = self.classes[FIRST_CONTINUATION + symbol] as usize;
-                rows[set.index(symbol)] = entries[class];
+                rows[set.first as usize + symbol] = entries[class];
                 symbol += 1;
             }
             state += 1;
         }
-        rows
+        self.with_characters(rows, 0, false)
     }
 
     /// Returns the steps of the states without a row.
-    pub(crate) const fn row_sets(&self) -> Sets<STATES> {
-        let (mut sets, mut state, rows) = (Sets::NONE, 0, self.layout.rows);
-        while self.layout.insides > 0 && state < STATES {
-            let (row, number) = (&self.rows[state], self.number[state] as usize);
-            if number >= rows && row.kinds == 3 {
-                sets.insides[number - rows] = Inside::at(self.rows_len(sets.many));
-                sets.many += 1;
-            } else if number >= rows {
-                let one = self.entry(state, row.steps[0]);
-                let other = self.entry(state, row.steps[1]);
-                sets.insides[number - rows] = Inside::of([one, other], row.bits);
-            }
-            state += 1;
-        }
-        sets
+    pub(crate) const fn row_sets(&self, lasts: &[u32]) -> Sets<STATES> {
+        self.sets(self.insides_start(), lasts)
     }
 
     /// Returns the entry of `step` in `state`.
-    const fn entry(&self, state: usize, step: usize) -> u32 {
+    pub(crate) const fn entry(&self, state: usize, step: usize) -> u32 {
         match step {
             0 if self.marks[state] % 2 == 0 => self.ended(self.marks[state], ENDS),
             0 => NOWHERE,

@@ -40,6 +40,8 @@ pub(crate) trait Run<'source>: Loops<'source> {
     const START: u32 = (Self::LAYOUT.root * Self::COLUMNS) as u32;
     /// The number of leaves.
     const LEAVES: usize = Self::DATA.leaves();
+    /// Whether all inputs are UTF-8.
+    const IS_TEXT: bool = <Self::Source as Source>::IS_TEXT;
     /// The column of each byte, and the entries of the first state, by bytes.
     const BYTE_COLUMNS: &'static [u8; 256] = &columns(&Self::LAYOUT.column);
     const FIRST: &'static [u32; 256] =
@@ -81,18 +83,19 @@ pub(crate) trait Run<'source>: Loops<'source> {
     /// Returns the entry of `byte` in `state`, which may have no row.
     #[inline(always)]
     fn any_step(rows: &'static [u32], state: u32, byte: u8) -> u32 {
-        if !Self::HAS_INSIDES || !Self::is_inside(state) {
-            return rows[state as usize + Self::column(byte)];
+        if Self::HAS_INSIDES && Self::is_inside(state) {
+            return Self::step_inside(rows, state, byte);
         }
-        if !continues(byte) {
+        rows[state as usize + Self::column(byte)]
+    }
+
+    /// Returns the entry of `byte` in `state`, which has no row.
+    #[inline(always)]
+    fn step_inside(rows: &'static [u32], state: u32, byte: u8) -> u32 {
+        if !Self::IS_TEXT && !continues(byte) {
             return NOWHERE;
         }
-        let inside = &Self::INSIDES[(state - Self::LEADS) as usize];
-        if inside.is_set() {
-            inside.entry(byte)
-        } else {
-            rows[inside.index(byte as usize)]
-        }
+        rows[Self::INSIDES[(state - Self::LEADS) as usize].index(byte)]
     }
 
     /// Returns the number of the state whose offset is `state`.
@@ -105,11 +108,58 @@ pub(crate) trait Run<'source>: Loops<'source> {
     }
 
     /// Continues an attempt at byte offset `from`, in the state `first` without a row, to the end
-    /// of a character. Returns the first entry that does not lead to such a state, the offset after
-    /// its byte, and the state before it. At the end of the input the entry is [`NOWHERE`], and the
-    /// offset is one more.
+    /// of this character and of the characters that follow, up to one that is ASCII. Returns the
+    /// last entry, the offset after its byte, and the state before it. At the end of the input in a
+    /// character the entry is [`NOWHERE`], and the offset is one more.
     #[inline(never)]
-    fn walk_inside(
+    fn walk_characters(
+        rows: &'static [u32],
+        bytes: &[u8],
+        from: usize,
+        first: u32,
+    ) -> (u32, usize, u32) {
+        let (mut entry, mut at, mut last) = Self::end_character(rows, bytes, from, first);
+        while entry < Self::LEADS {
+            let state = entry;
+            (entry, at, last) = Self::pass_characters(rows, bytes, at, state);
+            if entry == state {
+                break;
+            }
+        }
+        (entry, at, last)
+    }
+
+    /// Continues an attempt at byte offset `from` over the characters that are not ASCII and lead
+    /// from `state` back to it, and over the character after them, if it begins in a state without
+    /// a row. Returns the last entry, the offset after its byte, and the state before it.
+    // In the loop the state does not change: so the steps of a character do not wait for those of
+    // the one before.
+    #[inline(always)]
+    fn pass_characters(
+        rows: &'static [u32],
+        bytes: &[u8],
+        from: usize,
+        state: u32,
+    ) -> (u32, usize, u32) {
+        let mut at = from;
+        while let Some(byte) = bytes.get(at).filter(|byte| !byte.is_ascii()) {
+            let first = rows[state as usize + Self::column(*byte)];
+            if !Self::is_inside(first) {
+                break;
+            }
+            let (entry, to, last) = Self::end_character(rows, bytes, at + 1, first);
+            at = to;
+            if entry != state {
+                return (entry, at, last);
+            }
+        }
+        (state, at, state)
+    }
+
+    /// Continues an attempt at byte offset `from`, in the state `first` without a row, to the end
+    /// of the character. Returns the same as [`Run::walk_characters`].
+    #[inline(always)]
+    fn end_character(
         rows: &'static [u32],
         bytes: &[u8],
         from: usize,
@@ -117,12 +167,12 @@ pub(crate) trait Run<'source>: Loops<'source> {
     ) -> (u32, usize, u32) {
         let (mut state, mut at) = (first, from);
         while let Some(byte) = bytes.get(at) {
-            let next = Self::any_step(rows, state, *byte);
+            let entry = Self::step_inside(rows, state, *byte);
             at += 1;
-            if !Self::is_inside(next) {
-                return (next, at, state);
+            if !Self::is_inside(entry) {
+                return (entry, at, state);
             }
-            state = next;
+            state = entry;
         }
         (NOWHERE, at + 1, state)
     }
@@ -219,7 +269,7 @@ pub(crate) trait Run<'source>: Loops<'source> {
         let (mut state, mut at) = (first, from);
         'rows: loop {
             if Self::HAS_INSIDES && Self::is_inside(state) {
-                let (next, to, last) = Self::walk_inside(Self::ENTRIES, bytes, at, state);
+                let (next, to, last) = Self::walk_characters(Self::ENTRIES, bytes, at, state);
                 if next >= Self::LEADS {
                     return (next, to, last);
                 }

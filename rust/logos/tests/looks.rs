@@ -120,7 +120,7 @@ where
     }
 }
 
-impl<'s> Both<'s, 10> {
+impl<'s> Both<'s, 20> {
     /// Continues with another lexer for some items, and returns to the first one.
     fn morph(self, count: usize) -> Self {
         let mut others = Both {
@@ -139,7 +139,7 @@ impl<'s> Both<'s, 10> {
 }
 
 /// Moves lexers at the offsets that a seed determines, up to their end.
-fn move_along(mut both: Both<'_, 10>, seed: u64) {
+fn move_along(mut both: Both<'_, 20>, seed: u64) {
     let mut state = seed;
     while both.next() {
         state = state

@@ -4,49 +4,126 @@ use logos::internal::{_Data, _Ranges, _Tables, _Unpacked, CallbackResult, LexerI
 use logos::{Lexer, Logos, Span};
 use std::sync::OnceLock;
 
-/// The classes: no other, letters, `(`, blanks, digits, `.`, `<`, and four bytes of characters.
+/// The classes: other ASCII, letters, `(`, blanks, digits, `.`, `<`, four bytes of characters, `#`,
+/// symbols that end a comment or are in no text, three ranges of bytes that continue a character,
+/// and other bytes that begin one.
 const CLASSES: [u8; 257] = {
-    let mut classes = [0; 257];
-    let mut byte = b'a' as usize;
-    while byte <= b'z' as usize {
-        classes[byte] = 1;
+    let (mut classes, mut byte) = ([0; 257], 0);
+    while byte < 257 {
+        classes[byte] = class_of(byte);
         byte += 1;
     }
-    byte = b'0' as usize;
-    while byte <= b'9' as usize {
-        classes[byte] = 4;
-        byte += 1;
-    }
-    classes[b'(' as usize] = 2;
-    classes[b' ' as usize] = 3;
-    classes[b'.' as usize] = 5;
-    classes[b'<' as usize] = 6;
-    classes[0xE6] = 7;
-    classes[0xBC] = 8;
-    classes[0xA2] = 9;
-    classes[0xA3] = 10;
     classes
 };
-const WIDTH: usize = 11;
-/// Each row of a state: the root, a word, `(`, blanks, a number, a number and `.`, a fraction, `<`,
-/// and the first one and two bytes of `漢`, which belongs to words, and of `漣`, which is like `<`.
-#[rustfmt::skip]
-const STEPS: [u8; 110] = [
-    0, 3, 4, 5, 6, 0, 9, 10, 0, 0, 0,
-    0, 1, 0, 0, 0, 0, 0, 10, 0, 0, 0,
-    0, 0, 0, 0, 0, 0, 0, 0, 0, 0, 0,
-    0, 0, 0, 1, 0, 0, 0, 0, 0, 0, 0,
-    0, 0, 0, 0, 1, 7, 0, 0, 0, 0, 0,
-    0, 0, 0, 0, 8, 0, 0, 0, 0, 0, 0,
-    0, 0, 0, 0, 1, 0, 0, 0, 0, 0, 0,
-    0, 0, 0, 0, 0, 0, 0, 0, 0, 0, 0,
-    0, 0, 0, 0, 0, 0, 0, 0, 11, 0, 0,
-    0, 0, 0, 0, 0, 0, 0, 0, 0, 3, 9,
-];
-const ROWS: [u8; 10] = [0, 1, 2, 3, 4, 5, 6, 7, 8, 9];
-/// The leaves: 0 for blanks, 1 for words, 2 for `(`, 3 for numbers, 4 for `<`.
-const MARKS: [u8; 10] = [0, 4, 6, 2, 8, 0, 8, 10, 0, 0];
-const SKIPS: [u8; 5] = [1, 0, 0, 0, 0];
+const WIDTH: usize = 23;
+
+const fn class_of(symbol: usize) -> u8 {
+    if symbol >= 0x80 {
+        return match symbol {
+            0xE6 => 7,
+            0xBC => 8,
+            0xA2 => 9,
+            0xA3 => 10,
+            0x80..=0x8F => 13,
+            0x90..=0x9F => 14,
+            0xA0..=0xBF => 15,
+            0xC2..=0xDF => 16,
+            0xE0 => 17,
+            0xED => 19,
+            0xE1..=0xEF => 18,
+            0xF0 => 20,
+            0xF1..=0xF3 => 21,
+            0xF4 => 22,
+            _ => 12,
+        };
+    }
+    match symbol as u8 {
+        b'a'..=b'z' => 1,
+        b'(' => 2,
+        b' ' => 3,
+        b'0'..=b'9' => 4,
+        b'.' => 5,
+        b'<' => 6,
+        b'#' => 11,
+        b'\n' => 12,
+        _ => 0,
+    }
+}
+
+/// The states: the root, a word, `(`, blanks, a number, a number and `.`, a fraction, `<`, and the
+/// first one and two bytes of `漢`, which belongs to words, and of `漣`, which is like `<`; then a
+/// comment, which has no line end and no `漣`, and the states inside its characters.
+const STATES: usize = 20;
+const COMMENT: usize = 10;
+
+const STEPS: [u8; STATES * WIDTH] = {
+    let (mut steps, mut at) = ([0; STATES * WIDTH], 0);
+    while at < steps.len() {
+        steps[at] = if at / WIDTH < COMMENT {
+            step_of(at / WIDTH, at % WIDTH)
+        } else {
+            step_of_comment(at / WIDTH, at % WIDTH)
+        };
+        at += 1;
+    }
+    steps
+};
+
+const fn step_of(state: usize, class: usize) -> u8 {
+    match (state, class) {
+        (0, 1) | (9, 9) => 3,
+        (0, 2) => 4,
+        (0, 3) => 5,
+        (0, 4) => 6,
+        (0, 6) | (9, 10) => 9,
+        (0 | 1, 7) => 10,
+        (0, 11) => 2 + COMMENT as u8,
+        (1, 1) | (3, 3) | (4 | 6, 4) => 1,
+        (4, 5) => 7,
+        (5, 4) => 8,
+        (8, 8) => 11,
+        _ => 0,
+    }
+}
+
+const fn step_of_comment(state: usize, class: usize) -> u8 {
+    let continues = matches!(class, 8 | 9 | 10 | 13 | 14 | 15);
+    let next = match (state, class) {
+        (COMMENT, 0..=6 | 11) => return 1,
+        (COMMENT, 16) => 11,
+        (COMMENT, 18) => 12,
+        (COMMENT, 17) => 13,
+        (COMMENT, 19) => 14,
+        (COMMENT, 20) => 15,
+        (COMMENT, 21) => 16,
+        (COMMENT, 22) => 17,
+        (COMMENT, 7) => 18,
+        (11, _) if continues => COMMENT,
+        (12, _) if continues => 11,
+        (13, 8 | 9 | 10 | 15) => 11,
+        (14, 13 | 14) => 11,
+        (15, 8 | 9 | 10 | 14 | 15) => 12,
+        (16, _) if continues => 12,
+        (17, 13) => 12,
+        (18, 8) => 19,
+        (18, _) if continues => 11,
+        (19, _) if continues && class != 10 => COMMENT,
+        _ => return 0,
+    };
+    next as u8 + 2
+}
+
+const ROWS: [u8; STATES] = {
+    let (mut rows, mut state) = ([0; STATES], 0);
+    while state < STATES {
+        rows[state] = state as u8;
+        state += 1;
+    }
+    rows
+};
+/// The leaves: 0 for blanks, 1 for words, 2 for `(`, 3 for numbers, 4 for `<`, 5 for comments.
+const MARKS: [u8; STATES] = [0, 4, 6, 2, 8, 0, 8, 10, 0, 0, 12, 0, 0, 0, 0, 0, 0, 0, 0, 0];
+const SKIPS: [u8; 6] = [1, 0, 0, 0, 0, 0];
 const LEAVES: usize = SKIPS.len();
 
 fn step(state: usize, bytes: &[u8], at: usize) -> u8 {
@@ -72,7 +149,7 @@ fn attempt(bytes: &[u8], start: usize) -> (usize, usize) {
 }
 
 /// Returns a table followed by zeros: the states to which they belong are not reached.
-const fn padded<const N: usize>(table: &[u8; 10]) -> [u8; N] {
+const fn padded<const N: usize>(table: &[u8; STATES]) -> [u8; N] {
     let (mut padded, mut at) = ([0; N], 0);
     while at < table.len() {
         padded[at] = table[at];
@@ -81,7 +158,7 @@ const fn padded<const N: usize>(table: &[u8; 10]) -> [u8; N] {
     padded
 }
 
-/// The tokens of the lexers. The number identifies a lexer: with 10 or 301 it is the number of
+/// The tokens of the lexers. The number identifies a lexer: with 20 or 301 it is the number of
 /// states of its tables, which determines whether a row has an entry for each byte or for each
 /// class. A lexer with 0 has no tables.
 #[derive(Clone, Debug, PartialEq)]
@@ -90,9 +167,10 @@ pub enum Token<'s, const STATES: usize> {
     Round(&'s str),
     Number,
     Angle,
+    Comment,
 }
 
-pub type ByBytes<'s> = Token<'s, 10>;
+pub type ByBytes<'s> = Token<'s, STATES>;
 pub type ByClasses<'s> = Token<'s, 301>;
 pub type ByHand<'s> = Token<'s, 0>;
 
@@ -104,6 +182,7 @@ impl<'s, const STATES: usize> Token<'s, STATES> {
             Token::Round(text) => Token::Round(text),
             Token::Number => Token::Number,
             Token::Angle => Token::Angle,
+            Token::Comment => Token::Comment,
         }
     }
 }
@@ -111,9 +190,12 @@ impl<'s, const STATES: usize> Token<'s, STATES> {
 macro_rules! actions {
     () => {
         fn plain(leaf: usize) -> Option<Self> {
-            [None, Some(Token::Word), None, Some(Token::Number), None]
-                .into_iter()
-                .nth(leaf)?
+            match leaf {
+                1 => Some(Token::Word),
+                3 => Some(Token::Number),
+                5 => Some(Token::Comment),
+                _ => None,
+            }
         }
 
         /// `(` extends to the next `)`, and is skipped if there is none. `<` continues in another
@@ -194,18 +276,18 @@ macro_rules! lexer {
                 width: WIDTH,
                 class_lengths: (1, &[1; 257]),
                 classes: (1, &CLASSES),
-                lengths: (1, &[1; 110]),
+                lengths: (1, &[1; STATES * WIDTH]),
                 steps: (1, &STEPS),
                 rows: (1, &padded::<$states>(&ROWS)),
                 marks: (1, &padded::<$states>(&MARKS)),
                 skips: (1, &SKIPS),
             };
-            type Unpacked = _Unpacked<$states, 110>;
+            type Unpacked = _Unpacked<$states, { STATES * WIDTH }>;
             const UNPACKED: &'static Self::Unpacked = &<Self::Unpacked>::new::<Self>();
             const ROWS: &'static [u32] = &<Self::Unpacked>::rows::<Self, $entries>();
             const LASTS: &'static [u32] = &<Self::Unpacked>::lasts::<Self>();
-            const MASKS: &'static [[[u8; 8]; 256]] = &<Self::Unpacked>::masks::<Self, 4>();
-            const RANGES: &'static [_Ranges] = &_Ranges::of::<Self, 4>();
+            const MASKS: &'static [[[u8; 8]; 256]] = &<Self::Unpacked>::masks::<Self, 8>();
+            const RANGES: &'static [_Ranges] = &_Ranges::of::<Self, 8>();
             const FOLDED: &'static [u32] = &<Self::Unpacked>::folded::<Self, $folded>();
 
             fn bytes(source: &'s str) -> &'s [u8] {
@@ -219,7 +301,7 @@ macro_rules! lexer {
     };
 }
 
-lexer!(10, { 10 * 272 + 256 }, { 4096 + 1024 });
+lexer!(20, { 20 * 272 + 256 }, { 8192 + 1024 });
 lexer!(301, { 301 * WIDTH + 256 }, { 4096 + 1024 });
 
 /// Returns the text in which a callback continues.
@@ -230,7 +312,7 @@ pub fn other() -> &'static str {
 
 /// Returns a text of as many pieces, the same one for a seed each time.
 pub fn text(pieces: usize, seed: u64) -> String {
-    const PIECES: [&str; 20] = [
+    const PIECES: [&str; 26] = [
         "a",
         "word ",
         " ",
@@ -251,6 +333,12 @@ pub fn text(pieces: usize, seed: u64) -> String {
         "word漣",
         "漀",
         "a怀",
+        "#",
+        "# a ç 中文漢 😀 <\n",
+        "#żółw漣 é",
+        "# Съешь ещё этих мягких французских булок 6.5\n",
+        "# \u{7FF}\u{800}\u{D7FF}\u{E000}\u{FFFF}\u{10000}\u{10FFFF}\n",
+        "# 汀漠演",
     ];
     let mut seed = seed;
     let mut next = || {

@@ -9,7 +9,6 @@ import re
 from . import held_rules
 
 FOLDER = pathlib.Path(__file__).parents[1] / "held/rules"
-KINDS = sorted(it.stem for it in FOLDER.glob("*.rs"))
 TEXT = r'(?:r(?P<hashes>#*)"(?P<raw>.*?)"(?P=hashes)|"(?P<text>[^"\\]*)")'
 RULE = re.compile(rf"#\[(?P<kind>regex|token|logos)\((?:skip\(? ?)?{TEXT}(?P<words>.*?)\)*\]\n(?: *(?P<name>\w+),)?")
 SPECIAL = re.compile(r"[\\.+*?()|\[\]{}^$#&\-~]")
