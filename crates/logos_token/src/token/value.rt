@@ -21,8 +21,8 @@ pub enum LiteralValue {
     Bytes(Vec<u8>),
 }
 
-/// Returns whether `byte` in the contents of a string begins a piece that is not the byte itself.
-/// `escapes` is `false` for a raw string.
+/// Returns whether `byte` begins a piece of a string's contents that does not represent the byte
+/// itself. `escapes` is `false` for a raw string.
 fn is_special(escapes: bool, byte: u8) -> bool
     ensures { result ≡ ((byte == 13) || (escapes && (byte == 92))) }
 {
@@ -60,9 +60,9 @@ fn push_text(value: &mut String, piece: Piece) -> Result<(), AllocError>
     }
 }
 
-/// Appends to `value` the bytes of a string from `at` on that represent themselves, or the value of
-/// the piece at `at` if there are no such bytes. Returns the byte offset after them or after the
-/// piece. Returns `None` if there is neither.
+/// Appends the next part of a string's contents to `value`: the bytes from `at` on that represent
+/// themselves or, if there are none, the value of the piece at `at`. Returns the byte offset after
+/// this part. Returns `None` if no piece begins at `at`.
 fn add_text(
     value: &mut String,
     source: &str,
@@ -223,7 +223,7 @@ impl Literal<'_> {
     ///
     /// # Errors
     ///
-    /// Returns `Memory` if memory runs out for the value.
+    /// Returns `Memory` if memory runs out.
     pub fn value(&self, alloc: Global) -> Result<Option<LiteralValue>, Memory>
         ensures value { IfOk result (λ value. IsValue self.now.text.now value) }
         ensures held { IfOk result (λ value.
