@@ -97,8 +97,8 @@ fn warnings_with(
     warnings_of(alloc, &warned)
 }
 
-/// Returns the derivation of a source that is refused for the faults `errors`: their errors, and
-/// the warnings.
+/// Returns the derivation of a source that is refused for the faults `errors`: the errors for these
+/// faults, and the warnings.
 fn refused<H: Helps>(
     alloc: Global,
     source: &str,
@@ -115,8 +115,9 @@ fn refused<H: Helps>(
     })
 }
 
-/// Returns the errors for the faults `errors` of a refused source, and after them its warnings.
-/// `known` is the explanation of the source, to whose clues `helps` adds the helps.
+/// Returns the errors for the faults `errors` of a refused source, followed by the warnings of the
+/// source. `known` is the explanation of the source. `helps` adds helps to the clues of this
+/// explanation.
 fn diagnostics_of<H: Helps>(
     alloc: Global,
     source: &str,

@@ -15,15 +15,15 @@ use logos_report::Source;
 use std::alloc::Global;
 use std::io::Write;
 
-/// A location in the file at a path.
+/// A location in the file at the path `path`.
 #[derive(Clone, Copy)]
 pub(crate) struct FilePoint<'w> {
     pub(crate) path: &'w str,
     pub(crate) location: Location,
 }
 
-/// Writes the matches that start at a point of an input, for the requested lexer of a file. Returns
-/// `Same`, since nothing is compared.
+/// Writes the matches of a file's requested lexer that start at a point of an input. Returns
+/// `Same`, because nothing is compared.
 ///
 /// # Errors
 ///
@@ -49,8 +49,7 @@ pub(crate) fn show_matches<'w, F: Files, O: Write, E: Write>(
     Ok(Agreement::Same)
 }
 
-/// Writes the matches that start at the location of `point` in `bytes`, for the requested lexer of
-/// a file.
+/// Writes the matches of a file's requested lexer that start at the location of `point` in `bytes`.
 fn matches_by_file<'w, O: Write, E: Write>(
     task: Task<'w>,
     source: &Source<'_>,
@@ -80,7 +79,7 @@ fn matches_by_file<'w, O: Write, E: Write>(
 }
 
 /// Writes the matches of the lexer `made` that start at a point of an input, as JSON if `is_json`
-/// is set and otherwise as text.
+/// is `true` and as text otherwise.
 fn matches_by_lexer<O: Write>(
     alloc: Global,
     made: &Generated<'_>,

@@ -19,7 +19,8 @@ fn joined(alloc: Global, before: &str, text: &str, after: &str) -> Result<String
     Ok(message)
 }
 
-/// Reports a fault of `name` at its span. The message is `before`, the name and `after`.
+/// Reports a fault about `name` at its span. The message consists of `before`, the name and
+/// `after`.
 ///
 /// # Errors
 ///
@@ -38,8 +39,8 @@ pub fn report_about(
     report_about_with(errors, code, before, name, after, Detail::Plain)
 }
 
-/// Reports a fault of `name` at its span, with `detail`. The message is `before`, the name and
-/// `after`.
+/// Reports a fault about `name` at its span, with the detail `detail`. The message consists of
+/// `before`, the name and `after`.
 ///
 /// # Errors
 ///
@@ -61,7 +62,8 @@ pub fn report_about_with(
     Ok(())
 }
 
-/// Reports `at`, the span of an earlier value, after the fault that refers to it.
+/// Reports the span `at` of an earlier value. The fault that refers to this value has been reported
+/// before.
 ///
 /// # Errors
 ///

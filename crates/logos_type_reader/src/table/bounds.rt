@@ -1,5 +1,5 @@
-//! The actions in bounds, and at the lifetimes in `for<..>`. `table` calls the function of each
-//! stage.
+//! Determines the actions at the stages inside bounds and `for<..>`. `table` calls the function for
+//! each stage.
 
 ghost use Rattle.std.specs.Prelude.{◌≡◌};
 ghost use Rattle.logos_type_reader.specs.Views.{rest_of, tokens_of, after_bound, bound_lifetime_move, trait_move, question_move, bound_move, bound_end_move, further_move, enclosed_end_move, after_for, for_move, for_lifetime_move, for_list_move, for_end_move, path_move, OfBound, outside_of, spot_of, IsAction};
@@ -22,7 +22,7 @@ fn after_bound(kind: BoundKind) -> Stage
 }
 
 /// Returns the action at `'` where a bound is expected, or a mismatch if no name follows. `+` can
-/// join another bound if `plus`.
+/// join another bound if `plus` is `true`.
 fn bound_lifetime_step(plus: bool, at: &Spot<'_, '_>) -> Next
     ensures { IsAction result (spot_of at.now)
         (bound_lifetime_move plus (rest_of (tokens_of at.now.run)) (outside_of at.now.outside)) }
@@ -69,7 +69,7 @@ pub(super) fn question_step(kind: BoundKind, at: &Spot<'_, '_>) -> Next
 }
 
 /// Returns the action where a bound is expected, or a mismatch if no bound comes first. `+` can
-/// join another bound if `plus`.
+/// join another bound if `plus` is `true`.
 pub(super) fn bound_step(plus: bool, at: &Spot<'_, '_>) -> Next
     ensures { IsAction result (spot_of at.now)
         (bound_move plus (tokens_of at.now.run) (outside_of at.now.outside)) }
@@ -95,8 +95,8 @@ pub(super) fn bound_end_step(plus: bool, at: &Spot<'_, '_>) -> Next
     }
 }
 
-/// Returns the action after a `+` that follows a bound: that of another bound, or the end of the
-/// bounds.
+/// Returns the action after a `+` that follows a bound: the action of another bound, or the end of
+/// the bounds.
 pub(super) fn further_step(at: &Spot<'_, '_>) -> Next
     ensures { IsAction result (spot_of at.now)
         (further_move (tokens_of at.now.run) (outside_of at.now.outside)) }
@@ -108,6 +108,7 @@ pub(super) fn further_step(at: &Spot<'_, '_>) -> Next
 }
 
 /// Returns the action after a path in the parentheses of a bound, or a mismatch if a token follows.
+/// After the parentheses, `+` can join another bound if `plus` is `true`.
 pub(super) fn enclosed_end_step(plus: bool, at: &Spot<'_, '_>) -> Next
     ensures { IsAction result (spot_of at.now)
         (enclosed_end_move plus (tokens_of at.now.run) (outside_of at.now.outside)) }
