@@ -29,8 +29,8 @@ pub(crate) fn is_goal<M: Machine>(machine: &M, pending: PendingPoint) -> bool
 /// there is no such input. Among inputs of the same length, the search prefers letters, then
 /// digits, then punctuation.
 ///
-/// If `utf8` holds, inputs are UTF-8, otherwise any bytes. The search stores each visited point
-/// with its predecessor and the byte that leads from there.
+/// If `utf8` is `true`, only inputs in UTF-8 are considered. The search stores each visited point
+/// with its predecessor, and the byte that leads from the predecessor to the point.
 ///
 /// # Errors
 ///

@@ -59,7 +59,8 @@ pub(crate) fn write_all<B: ItemBlock, O: Write>(
     }
 }
 
-/// Writes each item of an input in blocks, found by a scan. The last items remain in `block`.
+/// Finds each item of an input by a scan, and writes the items in blocks. The last items remain in
+/// `block`.
 fn write_by_chunks<C: Fn(LeafId, &[u8]) -> Action, B: ItemBlock, O: Write>(
     folded: &Folded<'_, '_>,
     input: &[u8],
