@@ -26,9 +26,10 @@ pub(crate) fn closure_starts(alloc: Global, leaves: &[Leaf<'_>]) -> Result<Vec<u
     Ok(starts)
 }
 
-/// Returns the runs of a source with the tokens `tokens` whose first tokens begin at the byte
-/// offsets `starts`, which ascend. Each run extends to the end of the group or the source that
-/// contains it. The runs end before the first offset at which no token begins.
+/// Returns the runs of tokens that begin at the byte offsets `starts` in a source. `tokens` are the
+/// tokens of the source, and the offsets ascend. Each run extends to the end of the group or the
+/// source that contains it. The result has no runs from the first offset on at which no token
+/// begins.
 pub(crate) fn runs_at<'t, 's>(
     alloc: Global,
     tokens: Tokens<'t, 's>,
@@ -39,8 +40,8 @@ pub(crate) fn runs_at<'t, 's>(
     Ok(runs)
 }
 
-/// Appends to `runs` the runs within `run` and its groups that begin at the next offsets: those of
-/// `starts` from the index `runs.len()` on.
+/// Appends the runs within `run` and its groups that begin at the next offsets to `runs`. The next
+/// offsets are the elements of `starts` from the index `runs.len()` on.
 #[cycle(search)]
 fn search_run<'t, 's>(
     run: Tokens<'t, 's>,
@@ -55,8 +56,8 @@ fn search_run<'t, 's>(
     Ok(())
 }
 
-/// Appends `run` to `runs` if its first token begins at the next offset, which is at the index
-/// `runs.len()` of `starts`. If that token is a group, also appends the runs in the group.
+/// Appends `run` to `runs` if its first token begins at the next offset, the element of `starts` at
+/// the index `runs.len()`. If the first token is a group, also appends the runs in the group.
 #[cycle(search)]
 fn search_first<'t, 's>(
     run: Tokens<'t, 's>,
@@ -70,8 +71,8 @@ fn search_first<'t, 's>(
     }
 }
 
-/// Appends `run` to `runs` if its first token begins at the next offset, which is at the index
-/// `runs.len()` of `starts`.
+/// Appends `run` to `runs` if its first token begins at the next offset, the element of `starts` at
+/// the index `runs.len()`.
 fn add_if_next<'t, 's>(
     run: Tokens<'t, 's>,
     starts: &[usize],

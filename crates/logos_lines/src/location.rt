@@ -41,7 +41,7 @@ impl Location {
     }
 }
 
-/// Returns whether a byte of UTF-8 continues a character that an earlier byte began.
+/// Returns whether `byte` is a continuation byte of UTF-8.
 pub(crate) fn continues(byte: u8) -> bool
     ensures { result ≡ continues byte }
 {

@@ -10,12 +10,12 @@ use logos_token::error::{Errors, Memory};
 
 /// An interface to the helps for faults.
 pub trait Helps {
-    /// Adds to `clues` the help for each fault in `errors`, which are the faults of a part of a
-    /// file, in order. Reports show the help under the fault.
+    /// Adds the help for each fault in `errors` to `clues`. `errors` contains the faults of a part
+    /// of a file, in order. Reports show the help under its fault.
     ///
     /// # Errors
     ///
-    /// Returns `Memory` if memory runs out. Then some of the helps may have been added.
+    /// Returns `Memory` if memory runs out. In this case, some of the helps may have been added.
     fn add(&self, part: Part<'_, '_>, errors: &Errors, clues: &mut Clues) -> Result<(), Memory>
         ensures { sizes_of clues.new ≡ sizes_of clues.old };
 }

@@ -7,8 +7,8 @@ use logos_strip::helpers::{is_comma, is_macro_entry};
 use logos_token::token::{Delimiter, TokenTree, Tokens};
 use logos_token::util::after_word;
 
-/// Returns whether one of the attributes at the front of `tokens` is a `derive` with the entry
-/// `Logos`, `logos::Logos` or `::logos::Logos`, which `strip_attributes` removes.
+/// Returns whether one of the attributes at the front of `tokens` is a `derive` with an entry that
+/// `strip_attributes` removes: `Logos`, `logos::Logos` or `::logos::Logos`.
 pub(crate) fn derives(tokens: Tokens<'_, '_>) -> bool
     ensures { result ≡ derives (tokens_of tokens.entry) }
 {
@@ -52,8 +52,8 @@ fn bracketed<'t, 's>(tokens: Tokens<'t, 's>) -> Option<(bool, Tokens<'t, 's>)>
     }
 }
 
-/// Returns whether `tokens`, in the brackets of an attribute, are a `derive` with an entry that
-/// names the derive macro.
+/// Returns whether an attribute is a `derive` with an entry that names the derive macro. `tokens`
+/// are the tokens between the brackets of the attribute.
 fn derives_in(tokens: Tokens<'_, '_>) -> bool
     ensures { result ≡ derives_in (tokens_of tokens.entry) }
 {
@@ -75,7 +75,8 @@ fn begins_list(tokens: Tokens<'_, '_>) -> bool
     }
 }
 
-/// Returns whether one of the entries of a `derive` names the derive macro, with or without a path.
+/// Returns whether one of the entries `tokens` of a `derive` names the derive macro, with or
+/// without a path.
 fn lists_macro(tokens: Tokens<'_, '_>) -> bool
     ensures { result ≡ lists_macro true (tokens_of tokens.entry) }
 {
