@@ -227,8 +227,7 @@ fn test_neighbours(alloc: Global, graph: &Graph<'_>) -> Result<(), Failure<'stat
     Ok(())
 }
 
-/// Refuses a graph unless a text is found that distinguishes its states `s` and `t`, which are two
-/// different states.
+/// Refuses a graph unless a text is found that distinguishes its two different states `s` and `t`.
 fn test_pair(alloc: Global, graph: &Graph<'_>, s: State, t: State) -> Result<(), Failure<'static>>
     ensures { IfErr result (λ failure. status_of failure ≡ 3) }
 {

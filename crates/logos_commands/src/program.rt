@@ -1,4 +1,5 @@
-//! The program `logos`, from its arguments to its exit status. Used by `logos_program`.
+//! Runs the program `logos` with its arguments, and returns the exit status. Used by
+//! `logos_program`.
 
 ghost use Rattle.std.specs.Prelude.{◌≡◌, ◌≢◌, ◌≤◌, ◌⊎◌, ◌↔◌, None, map, string_bytes, IfErr, IfOk, IfSome, OnOk};
 ghost use Rattle.logos_commands.specs.Views.{Appends, Carries, Failure as Why, HasEffect, IsDenied, IsDone, IsLeft, IsPartOf, IsTouched, Keeps, ReadsSource, RefusesLexer, RefusesStripping, Touches, WritesFor, requested, effect_of, status_of};

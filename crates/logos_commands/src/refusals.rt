@@ -45,7 +45,7 @@ pub(super) fn refused_export(alloc: Global, why: ExportRefusal) -> Failure<'stat
     }
 }
 
-/// Returns the line, with LF, that reports the reason `why`.
+/// Returns the line that reports the reason `why`, including the LF.
 fn export_line(why: ExportRefusal) -> &'static str
     ensures { result.now ≡ export_line why }
 {

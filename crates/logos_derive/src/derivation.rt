@@ -22,14 +22,14 @@ use std::alloc::Global;
 pub struct Derivation {
     /// The implementation, or `None` if the enum is refused.
     pub implementation: Option<Sink>,
-    /// The errors, in the order of their faults, and after them the warnings.
+    /// The errors in the order of their faults, followed by the warnings.
     pub diagnostics: Vec<Diagnostic>,
 }
 
 /// Returns the derivation of the enum that `source` spells. An enum without faults is accepted: it
 /// has an implementation in the shape `shape`, and no errors. An enum with faults is refused: it
-/// has no implementation, and at least one error, with the helps that `helps` adds. Both may have
-/// warnings.
+/// has no implementation, and at least one error, with the helps that `helps` adds. Accepted and
+/// refused enums may have warnings.
 ///
 /// # Errors
 ///

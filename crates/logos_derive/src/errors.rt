@@ -59,9 +59,9 @@ fn add_fault(
     Ok(())
 }
 
-/// Returns whether `fault` has its own error. `front` are the faults before `fault`, and `next` is
-/// the state before `fault`. The first fault always has its own error, so that no source is refused
-/// without an error.
+/// Returns whether `fault` has its own error. `front` consists of the faults before `fault`, and
+/// `next` is the state before `fault`. The first fault always has its own error, so that no source
+/// is refused without an error.
 fn has_error(front: &[SpannedError], next: NextFaults<'_>, fault: &SpannedError) -> bool
     ensures { result ≡ has_error (faults_of front.now) (next_value next.entry)
         (fault_of fault.now) }

@@ -25,8 +25,8 @@ pub(crate) fn joined_to<'f>(
 }
 
 /// Returns the further spans of the error for `fault`: the second span of the fault, if there is
-/// one, and the spans of the first 50 faults in `joined`. `joined` are the faults that belong to
-/// the error, and `first` is the state before the first of these faults.
+/// one, and the spans of the first 50 faults in `joined`. `joined` consists of the faults that
+/// belong to the error, and `first` is the state before the first of these faults.
 pub(crate) fn labels_of(
     alloc: Global,
     fault: &SpannedError,
@@ -43,7 +43,7 @@ pub(crate) fn labels_of(
     Ok(labels)
 }
 
-/// Appends the span of a fault that belongs to an error to `labels`. If the fault is the member
+/// Appends to `labels` the span of a fault that belongs to an error. If the fault is the member
 /// `member` of a set of ambiguous leaves, the label is the name of its leaf. Otherwise the label is
 /// the first line of the fault's message.
 fn add_joined(

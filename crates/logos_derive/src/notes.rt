@@ -20,8 +20,8 @@ pub(crate) struct KnownError<'f, 'p, 't> {
     pub(crate) starts: &'f [Start],
     /// The help for the fault, if there is one.
     pub(crate) help: Option<&'static str>,
-    /// The number of later faults with the code of the error that are left out, or 0 if another
-    /// error with this code may follow.
+    /// The number of omitted later faults with the code of the error, or 0 if another error with
+    /// this code may follow.
     pub(crate) left_out: usize,
 }
 
@@ -38,8 +38,8 @@ pub(crate) fn notes_of(alloc: Global, error: KnownError<'_, '_, '_>) -> Result<V
     Ok(notes)
 }
 
-/// Appends the name of the first subpattern that is substituted before the byte of the fault to
-/// `notes`, if there is such a subpattern.
+/// Appends to `notes` the name of the first subpattern that is substituted before the byte of the
+/// fault. Appends nothing if there is no such subpattern.
 fn add_put_in(
     alloc: Global,
     error: KnownError<'_, '_, '_>,
@@ -53,8 +53,8 @@ fn add_put_in(
     add_note(text.as_str(), notes)
 }
 
-/// Appends the lines of an error's message after its first line to `notes`. For a member of a set
-/// of ambiguous leaves, appends the note of the set instead, because labels name the other members.
+/// Appends all lines of an error's message except the first to `notes`. For a member of a set of
+/// ambiguous leaves, appends the note of the set instead, because labels name the other members.
 fn add_message(error: KnownError<'_, '_, '_>, notes: &mut Vec<Note>) -> Result<(), Memory> {
     match error.member {
         Some(member) => add_note(member.meeting.note.as_str(), notes),
@@ -62,7 +62,7 @@ fn add_message(error: KnownError<'_, '_, '_>, notes: &mut Vec<Note>) -> Result<(
     }
 }
 
-/// Appends the lines of `message` after its first line to `notes`.
+/// Appends all lines of `message` except the first to `notes`.
 fn add_other_lines(message: &str, notes: &mut Vec<Note>) -> Result<(), Memory> {
     for line in message.split('\n').skip(1) {
         add_other_line(line, notes)?;

@@ -18,8 +18,8 @@ pub fn items_given_are_a_run<C: Fn(LeafId, &[u8]) -> Action>(_callback: &C)
     ensures { EndIsRun C.Fn }
 {}
 
-/// A run with a callback is also a run with every callback whose possible actions include those of
-/// the first callback.
+/// A run with a callback is also a run with every callback whose possible actions include all
+/// possible actions of the first callback.
 pub fn runs_go_over<C: Fn(LeafId, &[u8]) -> Action, D: Fn(LeafId, &[u8]) -> Action>(
     callback: &C,
     other: &D,

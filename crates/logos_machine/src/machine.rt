@@ -36,7 +36,7 @@ pub enum Item<'i> {
     },
 }
 
-/// The error that a lexer in UTF-8 mode cannot read an input because it is not UTF-8.
+/// The error for an input that is not UTF-8 if the lexer is in UTF-8 mode.
 #[derive(Clone, Copy, Debug, PartialEq, Eq)]
 pub struct NotUtf8 {
     /// The length in bytes of the longest prefix of the input that is UTF-8.

@@ -115,8 +115,8 @@ fn no_location(alloc: Global, path: &str, location: Location) -> Failure<'static
     refusal_of(page.finish())
 }
 
-/// Writes inputs that together take all edges of a graph as Rust literals, but only the first
-/// `most` of these inputs. Returns a note with the number of written inputs and the number of all
+/// Finds inputs that together take all edges of a graph, and writes the first `most` of these
+/// inputs as Rust literals. Returns a note with the number of written inputs and the number of all
 /// inputs. The note is empty if all inputs were written.
 ///
 /// # Errors
@@ -141,8 +141,8 @@ pub fn write_inputs<O: Write>(
     Ok(note)
 }
 
-/// Writes inputs that together take all edges of a graph as lines of JSON, but only the first
-/// `most` of these inputs. Returns a note with the number of written inputs and the number of all
+/// Finds inputs that together take all edges of a graph, and writes the first `most` of these
+/// inputs as lines of JSON. Returns a note with the number of written inputs and the number of all
 /// inputs. The note is empty if all inputs were written.
 ///
 /// # Errors

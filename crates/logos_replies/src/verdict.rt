@@ -75,8 +75,8 @@ fn agreement_of(compared: &Compared) -> Agreement
     }
 }
 
-/// Returns the note about the callbacks that two lexers write differently. The note is empty if
-/// there are no such callbacks.
+/// Returns the note about callbacks that are written differently in two lexers. The note is empty
+/// if there are no such callbacks.
 fn callback_note<'l>(
     alloc: Global,
     one: NamedLexer<'l, '_>,

@@ -47,7 +47,8 @@ fn candidates_of(alloc: Global, text: &str, found: &[FoundEnum]) -> Result<Vec<C
     Ok(candidates)
 }
 
-/// Adds `found` with its path in the file `text` to `candidates` if it derives `Logos`.
+/// Adds the enum `found` with its path in the file `text` to `candidates` if the enum derives
+/// `Logos`.
 fn add_candidate(
     alloc: Global,
     text: &str,

@@ -1,4 +1,5 @@
-//! Selects the enum of a file whose lexer is requested. Used by the modules that need a lexer.
+//! Selects the enum whose lexer is requested among the enums of a file. Used by the modules that
+//! need a lexer.
 
 ghost use Rattle.std.specs.Prelude.{◌≡◌, ◌↔◌, ℕ, List, IfErr, IfOk, IfSome, IsTrue, None, Some, option_map, string_bytes};
 ghost use Rattle.logos_show.specs.Views.{Fault, Gains, HasName, IsCause, IsChosen, IsChosenIn, IsLexerOf, IsNextChoice, IsNoMisuse, IsPathOf, IsSeveralText, IsUnreadable, Refuses, RefusesBy, chosen_first, first_deriving, help_text, name_requested, name_text, no_lexer_text, other_text, several_text};
@@ -38,7 +39,7 @@ pub(crate) enum Chosen {
 }
 
 /// Returns the requested enum of a file. Without a name, this is the first enum that derives
-/// `Logos`. If enums with different paths then derive `Logos`, a note is written to standard error.
+/// `Logos`, and a note is written to standard error if enums with different paths derive `Logos`.
 ///
 /// # Errors
 ///
@@ -146,8 +147,8 @@ pub(crate) fn found_in<'w>(
     }
 }
 
-/// Returns the refusal of a file that cannot be read into tokens, with its faults, or `Memory` if
-/// memory ran out.
+/// Returns the refusal of a file that cannot be read into tokens. The refusal contains the faults
+/// of the file. Returns `Memory` if memory runs out.
 fn unread(
     alloc: Global,
     showing: Showing,
@@ -194,8 +195,8 @@ fn no_lexer_text(alloc: Global, file: &str, name: Option<&str>) -> Result<String
     page.finish()
 }
 
-/// Returns the refusal of a name that selects several enums. `enums` are two of these enums with
-/// different paths. Returns `Memory` if memory runs out.
+/// Returns the refusal of a name that selects several enums. `enums` contains two of these enums,
+/// which have different paths. Returns `Memory` if memory runs out.
 fn several(
     alloc: Global,
     source: &Source<'_>,
@@ -211,7 +212,8 @@ fn several(
     }
 }
 
-/// Returns the message that several enums have the name `name`, with the paths of `enums`.
+/// Returns the message that several enums have the name `name`, with the paths of the two enums in
+/// `enums`.
 fn several_text(
     alloc: Global,
     source: &Source<'_>,

@@ -16,9 +16,9 @@ use logos_report::Source;
 use std::alloc::Global;
 use std::io::Write;
 
-/// Writes inputs that together take all edges of the graph of a file's requested lexer. Writes only
-/// the first `most` of these inputs, and a note to standard error. Returns `Same`, because nothing
-/// is compared.
+/// Finds inputs that together take all edges of the graph of a file's requested lexer. Writes the
+/// first `most` of these inputs, and a note to standard error. Returns `Same`, because nothing is
+/// compared.
 ///
 /// # Errors
 ///

@@ -1,4 +1,4 @@
-//! Prints the items of an input. Used by `program` for a second path without an option.
+//! Prints the items of an input. Used by `program` if a second path is given without an option.
 
 ghost use Rattle.std.specs.Prelude.{IfErr};
 ghost use Rattle.logos_show.specs.Imports.{IsNoMisuse};

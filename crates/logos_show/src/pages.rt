@@ -44,7 +44,7 @@ pub(crate) struct PageStyle {
     pub(crate) form: Form,
 }
 
-/// The output for a file while its enums are read one after another.
+/// The output that is collected for a file while its enums are read in turn.
 #[derive(Drop)]
 struct Pages {
     tables: Page,

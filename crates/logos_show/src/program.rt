@@ -1,4 +1,4 @@
-//! Runs the program, from its arguments to its exit status. Used by `run_logos_show`.
+//! Runs the program with its arguments, and returns the exit status. Used by `run_logos_show`.
 
 ghost use Rattle.std.specs.Prelude.{◌≡◌, ◌≤◌, ◌↔◌, ◌⊎◌, None, IfErr, IfOk, IfSome, map, string_bytes};
 ghost use Rattle.logos_show.specs.Views.{Answers, AnswersAbout, AnswersOrExpects, Expects, IsFulfilled, IsNoMisuse, expected_in, is_json, order_value, question_value, request_value, requested, status_of};
@@ -119,7 +119,7 @@ pub(crate) fn run<
     }
 }
 
-/// Writes the message of a failure to standard error, and returns its exit status.
+/// Writes the message of a failure to standard error, and returns the failure's exit status.
 fn failed<E: Write>(failure: &Failure<'_>, err: &mut E) -> u8
     ensures { result ≡ status_of failure.now }
 {
@@ -379,8 +379,8 @@ pub(crate) fn is_json(order: ShowOrder<'_>) -> bool
     order.settings.has(OptionName::Json)
 }
 
-/// Returns the form in which the lexers of a file are shown for an order. A question for neither
-/// leaves nor examples has the form of leaves.
+/// Returns the form in which the lexers of a file are shown for an order. Questions that request
+/// neither leaves nor examples have the form of leaves.
 fn form_of(order: ShowOrder<'_>) -> Form {
     match (order.question, is_json(order)) {
         (Question::Examples, false) => Form::Examples,

@@ -23,7 +23,7 @@ pub struct GivenTypes<'s> {
 }
 
 impl<'s> GivenTypes<'s> {
-    /// Returns an empty list of types, which takes its memory from `alloc`.
+    /// Returns an empty list of types that takes its memory from `alloc`.
     pub fn new(alloc: Global) -> GivenTypes<'s>
         ensures { result.entries.items ≡ [] }
     {

@@ -57,7 +57,7 @@ fn set_each<'s>(alloc: Global, parts: &[TypePart<'s>]) -> Result<TypePart<'s>, A
 
 /// Returns a copy of the type with lifetimes set to `'s` at any depth.
 ///
-/// The lifetimes of references are set, and the lifetimes among the angle-bracketed arguments of
+/// This sets the lifetimes of references, and the lifetimes among the angle-bracketed arguments of
 /// paths that are types. A reference without a lifetime receives one. Other lifetimes are
 /// unchanged, such as the lifetimes of `dyn` and `for<..>`. Parts that are never replaced are also
 /// unchanged, such as the type before `as`.
@@ -75,9 +75,9 @@ pub fn replace_lifetimes<'s>(
     Ok(TypeExpr { part })
 }
 
-/// Returns a copy of the type with its own lifetimes set to `'s`. For a reference, the lifetime is
-/// set, or added if the reference has none. For a path that is a type, the lifetimes among its
-/// angle-bracketed arguments are set. Any other type and all inner types are unchanged.
+/// Returns a copy of the type with its own lifetimes set to `'s`. For a reference, this sets its
+/// lifetime, or adds one if there is none. For a path that is a type, this sets the lifetimes among
+/// its angle-bracketed arguments. Any other type and all inner types are unchanged.
 ///
 /// # Errors
 ///

@@ -1,4 +1,4 @@
-//! Reports faults of names and types. Each function adds one fault. `logos_definition` and this
+//! Reports faults in names and types. Each function adds one fault. `logos_definition` and this
 //! crate call these functions.
 
 ghost use Rattle.std.specs.Prelude.{◌≡◌, ◌++◌, ◌∷◌, [], IfOk, OnOk, OnErr, string_bytes};
@@ -75,7 +75,7 @@ pub fn report_previous(errors: &mut Errors, at: Span) -> Result<(), Memory>
     errors.err(FaultCode::Previous, "Previously assigned here", at)
 }
 
-/// Returns the message of a fault of too many nested types.
+/// Returns the message of the fault that too many types are nested.
 pub fn type_nesting_text() -> &'static str
     ensures { result.now ≡ type_nesting_text }
 {

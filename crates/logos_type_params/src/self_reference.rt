@@ -21,7 +21,7 @@ pub(crate) struct Chains<'p, 's> {
     ghost fits: { length held.items ≡ length types.now.entries.items },
 }
 
-/// Appends the index of the type given to the name `text` to `reached`, if the name has a type.
+/// Appends to `reached` the index of the type given to the name `text`, if the name has a type.
 fn reach_name<'s>(
     types: &GivenTypes<'s>,
     text: &str,
@@ -37,7 +37,7 @@ fn reach_name<'s>(
     Ok(())
 }
 
-/// Appends the indices of the types given to the names in `part` to `reached`. Names in parts that
+/// Appends to `reached` the indices of the types given to the names in `part`. Names in parts that
 /// are never replaced do not count.
 fn reach<'s>(
     types: &GivenTypes<'s>,

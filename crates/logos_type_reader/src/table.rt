@@ -1,5 +1,5 @@
-//! The grammar of types: the next step at each spot inside a type. The reader of types calls
-//! `next_at` at each spot.
+//! The grammar of types, which determines the next step at each spot inside a type. The reader of
+//! types calls `next_at` at each spot.
 
 ghost use Rattle.std.specs.Prelude.{IsTrue};
 ghost use Rattle.logos_type_reader.specs.Views.{tokens_of, next_at, outside_of, spot_of, IsStep, IsAction, is_in_bounds};

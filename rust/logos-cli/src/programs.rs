@@ -32,7 +32,7 @@ pub fn run(program: Program) -> ExitCode {
 }
 
 /// Runs `logos_show` on the files `files` and the system `system`, which has a clock, a standard
-/// input and variables. `arguments` do not contain the name of the program. Returns the exit
+/// input and variables. `arguments` does not contain the name of the program. Returns the exit
 /// status. Appends the standard error to `err` and the standard output to `out`.
 pub fn show<F: ComparableFiles, S: Clock + Input + Env>(
     arguments: &[String],

@@ -127,8 +127,8 @@ fn loop_end(code: &Code, input: &[u8], state: usize, offset: usize) -> usize
     }
 }
 
-/// Returns the last mark passed after a state with this sign. `offset` is the end of the state's
-/// fast loop, and `context` is the last mark passed before the state.
+/// Returns the last mark passed after a state with the sign `sign`. `offset` is the end of the
+/// state's fast loop, and `context` is the last mark passed before the state.
 #[inline]
 pub(super) fn marked(
     sign: Sign,

@@ -39,12 +39,12 @@ fn stopping(code: &Code, test: usize, block: &[u8; 16]) -> u64
     (near | far).simd_eq(u8x16::splat(0)).to_bitmask()
 }
 
-/// A bit for each upper half of a byte below 128. The entry of such an upper half has only the bit
-/// at the index of the upper half set. All other entries are 0.
+/// The entries for the upper halves of bytes. For a byte below 128, the entry has only the bit set
+/// whose index is the upper half. For any other byte, the entry is 0.
 const NEAR: [u8; 16] = [1, 2, 4, 8, 16, 32, 64, 128, 0, 0, 0, 0, 0, 0, 0, 0];
 
-/// A bit for each upper half of a byte from 128 on. The entry of such an upper half has only the
-/// bit set whose index is the upper half minus 8. All other entries are 0.
+/// The entries for the upper halves of bytes. For a byte from 128 on, the entry has only the bit
+/// set whose index is the upper half minus 8. For any other byte, the entry is 0.
 const FAR: [u8; 16] = [0, 0, 0, 0, 0, 0, 0, 0, 1, 2, 4, 8, 16, 32, 64, 128];
 
 /// Returns, for each byte, the entry of the mask at the index `at` plus the lower half of the byte.

@@ -18,7 +18,7 @@ pub enum Within<'i> {
     /// A request for more bytes. The next match attempt has reached the end of the part, in a state
     /// from which more bytes or the end of the input can continue the attempt.
     More,
-    /// The end of the input. Only a call for the last part returns it.
+    /// The end of the input. Returned only for the last part.
     End,
 }
 

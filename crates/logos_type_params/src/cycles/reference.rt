@@ -1,5 +1,5 @@
-//! Finds the nodes that lie on a cycle with a traversal from each node. `on_cycles` calls `marks`
-//! if the check fails.
+//! Finds the nodes that lie on a cycle by traversing the graph from each node. `on_cycles` calls
+//! `marks` if the check fails.
 
 ghost use Rattle.std.specs.Prelude.{◌≡◌, ℕ, ◌<◌, ◌↔◌, [], ◌∷◌, true, false, IfOk, OnOk, IsTrue, Contains, length, vec_len, slice_index_or};
 ghost use Rattle.logos_type_params.specs.cycles.Views.{Leads, targets_of, Reaches, graph};

@@ -50,7 +50,7 @@ fn copy_concrete<'s>(
     copy_given(types, name.text)
 }
 
-/// Reports that `name`, a declared name, has no type.
+/// Reports that the declared name `name` has no type.
 fn report_missing(name: Ident<'_>, errors: &mut Errors) -> Result<(), Memory>
     ensures { OnOk result (errors.new ≡ errors.old ++ no_concrete_type (named_of name.entry) ∷ []) }
 {

@@ -67,8 +67,9 @@ fn open<'t, 's>(
     Ok(TypeStep::Take(TypeToken::Open(group.delimiter), inner))
 }
 
-/// Returns the step that opens the group at the start of the run, or a mismatch if no group comes
-/// first or a group is already open.
+/// Returns the step that opens the group at the start of the run and continues inside the group at
+/// `stage`. Returns a mismatch if the run does not begin with a group, or if a group is already
+/// open.
 fn open_first<'t, 's>(
     stage: Stage,
     run: Tokens<'t, 's>,

@@ -1,5 +1,5 @@
 //! Determines the actions at the stages inside references, pointers, groups, and `<T as P>`.
-//! `table` calls the function for each stage.
+//! `table` calls the function for the stage of a spot.
 
 ghost use Rattle.logos_type_reader.specs.Views.{tokens_of, referent_move, pointer_move, list_move, list_end_move, element_end_move, length_move, self_end_move, self_trait_end_move, self_closed_move, outside_of, spot_of, IsAction};
 

@@ -1,5 +1,5 @@
 //! Determines the actions at the stages inside paths and their arguments. `table` calls the
-//! function for each stage.
+//! function for the stage of a spot.
 
 ghost use Rattle.std.specs.Prelude.{◌≡◌};
 ghost use Rattle.logos_type_reader.specs.Views.{rest_of, tokens_of, argued, name_end, segments_move, named_move, macro_move, output_move, inputs_move, input_end_move, colons_move, lifetime_move, argument_word, arguments_move, braced_move, equals_move, constrained_move, argument_end_move, path_move, outside_of, spot_of, first_text, IsAction};
@@ -229,8 +229,8 @@ pub(super) fn argument_end_step(kind: PathKind, at: &Spot<'_, '_>) -> Next
     }
 }
 
-/// Returns the action where a path must begin, or a mismatch if neither a name nor `::` comes
-/// first. `next` is the stage after the path.
+/// Returns the action where a path must begin, or a mismatch if neither a name nor `::` follows.
+/// `next` is the stage after the path.
 pub(super) fn path_step(kind: PathKind, next: Stage, at: &Spot<'_, '_>) -> Next
     ensures { IsAction result (spot_of at.now) (path_move kind next (tokens_of at.now.run)) }
 {

@@ -129,7 +129,7 @@ pub(crate) enum Stage {
     Typed,
     /// After the `:` that follows the name of a parameter.
     TypedValue,
-    /// After one parameter of a function.
+    /// After a parameter of a function.
     OneTaken,
     /// After the `...` among the parameters of a function.
     Variadic,
@@ -152,7 +152,7 @@ pub(crate) struct Spot<'t, 's> {
 /// The next step at a spot, with the tokens that the step takes.
 #[derive(Clone, Copy)]
 pub(crate) enum TypeStep<'t, 's> {
-    /// Ends the construct that was begun.
+    /// Ends the current construct.
     End,
     /// Takes this token and continues at the spot.
     Take(TypeToken<'s>, Spot<'t, 's>),
@@ -218,25 +218,26 @@ pub(crate) enum Prefix {
 /// that begin alike.
 #[derive(Clone, Copy)]
 pub(crate) enum TableEntry {
-    /// End the construct that was begun.
+    /// Ends the current construct.
     End,
-    /// Take these tokens and continue after them at this stage.
+    /// Takes these tokens and continues after them at this stage.
     Take(Prefix, Stage),
-    /// Take these tokens, which occur only in unsupported types, and continue after them at this
+    /// Takes these tokens, which occur only in unsupported types, and continues after them at this
     /// stage.
     Bar(Prefix, Stage),
-    /// Read a type and continue after it at this stage. `+` can join bounds if the flag is `true`.
+    /// Reads a type and continues after it at this stage. `+` can join bounds if the flag is
+    /// `true`.
     Need(bool, Stage),
-    /// Read a type that is never replaced and continue after it at this stage.
+    /// Reads a type that is never replaced and continues after it at this stage.
     KeepType(Stage),
-    /// Take all tokens without reading types in them and continue at this stage.
+    /// Takes all tokens without reading types in them and continues at this stage.
     Keep(Stage),
-    /// Take these tokens, which begin a path or bounds. Read the rest of the path or bounds from
-    /// the first stage on, and continue at the second stage.
+    /// Takes these tokens, which begin a path or bounds. Reads the rest of the path or bounds from
+    /// the first stage on, and continues at the second stage.
     Nest(Prefix, Stage, Stage),
-    /// Open the group and continue inside it at this stage.
+    /// Opens the group and continues inside it at this stage.
     Open(Stage),
-    /// Close the group and continue after it at this stage.
+    /// Closes the group and continues after it at this stage.
     Close(Delimiter, Stage),
 }
 
