@@ -39,8 +39,8 @@ struct GraphPair<'g> {
     utf8: bool,
 }
 
-/// Returns whether the leaf `mark` has a name in `names` that equals the name of the leaf `twin` in
-/// `others`, or neither leaf has a name.
+/// Returns whether the name of the leaf `mark` in `names` equals the name of the leaf `twin` in
+/// `others`. Two missing names count as equal.
 fn same_mark(names: &[usize], mark: usize, others: &[usize], twin: usize) -> bool
     ensures { result ≡ machines.same_option (slice_get names.now mark) (slice_get others.now twin) }
 {

@@ -19,8 +19,7 @@ struct Examples<'g> {
 }
 
 /// Returns whether the last match after a step is a match of `leaf`. `mark` is the leaf whose match
-/// ends at the step. If `mark` is `None`, the result is `before`, which applies to the point before
-/// the step.
+/// ends at the step. If `mark` is `None`, the result is `before`, the result for the previous step.
 pub(crate) fn is_last(leaf: usize, mark: Option<usize>, before: bool) -> bool
     ensures { result ≡ machines.is_last leaf mark before }
 {

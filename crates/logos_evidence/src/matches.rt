@@ -14,13 +14,13 @@ use std::alloc::{AllocError, Global};
 pub struct Match {
     /// The number of the leaf.
     pub leaf: usize,
-    /// The offset of the input at which the match ends, in bytes.
+    /// The byte offset in the input at which the match ends.
     pub end: usize,
     /// The priority of the leaf.
     pub priority: usize,
 }
 
-/// Returns the priority of a leaf by its number, or 0 if there is no such leaf.
+/// Returns the priority of the leaf with the number `leaf`, or 0 if there is no such leaf.
 pub(crate) fn priority_of(leaves: &[Leaf<'_>], leaf: usize) -> usize
     ensures { result ≡ priority_of (rules_of leaves.now) leaf }
 {

@@ -12,8 +12,8 @@ use logos_graph::graph::Graph;
 use logos_pattern::leaf::Leaf;
 use std::alloc::{AllocError, Global};
 
-/// A machine that follows an automaton. Its goals are the points after inputs that begin with a
-/// span that exactly the leaves of a set match with the highest priority.
+/// A machine that follows an automaton. Its goals are the points after inputs with a prefix that
+/// exactly the leaves of a set match with the highest priority.
 #[derive(Clone, Copy)]
 struct Meetings<'g, 's> {
     graph: &'g Graph<'s>,
@@ -109,9 +109,9 @@ impl Machine for Meetings<'_, '_> {
     }
 }
 
-/// Returns a shortest input that begins with a span that exactly the leaves of a set match with the
-/// highest priority. Returns `None` if and only if there is no such input. Among inputs of the same
-/// length, the search prefers letters, then digits, then punctuation.
+/// Returns a shortest input with a prefix that exactly the leaves of a set match with the highest
+/// priority. Returns `None` if and only if there is no such input. Among inputs of the same length,
+/// the search prefers letters, then digits, then punctuation.
 ///
 /// The set must be nonempty and in ascending order. The leaves must have no faults except ambiguous
 /// sets.

@@ -1,5 +1,5 @@
-//! Searches over machines that read bytes: for a shortest input that leads to a goal, and for
-//! inputs that together take all steps. Used by the other modules of this crate.
+//! Searches machines that read bytes for a shortest input that leads to a goal, and for inputs that
+//! together take all steps. Used by the other modules of this crate.
 
 ghost use Rattle.std.specs.Prelude.{◌≡◌, IfOk, MatchOption};
 ghost use Rattle.logos_evidence.specs.search.Views.{IsShortest, NoneLeads, pending_goal};

@@ -20,9 +20,9 @@ impl Helps for FaultHelps {
     }
 }
 
-/// Appends the help for each fault in `errors` to the helps of `clues`, in order. A fault without a
-/// help has `None`. `part` is the part of a file that has the faults. A report shows each help
-/// under its fault.
+/// Appends the help for each fault in `errors` to the helps of `clues`, in order. Appends `None`
+/// for a fault without a help. `part` is the part of a file that has the faults. A report shows
+/// each help under its fault.
 ///
 /// # Errors
 ///
@@ -33,8 +33,8 @@ pub fn add_helps(part: Part<'_, '_>, errors: &Errors, clues: &mut Clues) -> Resu
     add_all(part, errors.list(), &mut clues.helps)
 }
 
-/// Appends the help for each of `faults` to `helps`, in order. A fault without a help has `None`.
-/// `part` is the part of a file that has the faults.
+/// Appends the help for each of `faults` to `helps`, in order. Appends `None` for a fault without a
+/// help. `part` is the part of a file that has the faults.
 fn add_all(
     part: Part<'_, '_>,
     faults: &[SpannedError],

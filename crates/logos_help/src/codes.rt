@@ -66,7 +66,7 @@ fn help_for_lexical(kind: LexicalKind, sight: Sight<'_>) -> &'static str {
     }
 }
 
-/// Returns the help for a literal with an escape that Rust does not have.
+/// Returns the help for a literal with an escape that Rust does not support.
 fn help_for_escapes(sight: Sight<'_>) -> &'static str {
     if sight.text.contains("\\x") {
         "a string has `\\x00` to `\\x7F` and `\\u{..}`: write a byte string for other bytes"

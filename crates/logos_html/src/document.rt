@@ -231,9 +231,9 @@ fn push_navigation(html: &mut Html, has_input: bool) {
     );
 }
 
-/// Returns the end of the shown front of an input, as an offset in bytes. The end is the length of
-/// the input if that is at most `SHOWN`. Otherwise, it is `SHOWN`, or up to 3 bytes less so that no
-/// UTF-8 character is split.
+/// Returns the end of the shown front of an input, as an offset in bytes. An input of at most
+/// `SHOWN` bytes is shown completely. Otherwise, the end is `SHOWN`, or up to 3 bytes less so that
+/// no UTF-8 character is split.
 fn end_of(bytes: &[u8]) -> usize {
     if bytes.len() <= SHOWN {
         return bytes.len();

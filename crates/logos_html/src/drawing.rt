@@ -192,7 +192,7 @@ fn push_line(html: &mut Html, from: Dot, to: Dot, head: &'static str) {
     html.push_markup("\" marker-end=\"url(#head)\"/>\n");
 }
 
-/// Appends the curve of an edge to a state on the right.
+/// Appends the curve of an edge that leads to a state on the right.
 fn push_forward(html: &mut Html, from: Dot, to: Dot) {
     push_point(html, "M", from.x.saturating_add(RADIUS), from.y);
     push_point(html, " C", from.x.saturating_add(WIDE / 2), from.y);
@@ -200,7 +200,7 @@ fn push_forward(html: &mut Html, from: Dot, to: Dot) {
     push_point(html, " ", to.x.saturating_sub(RADIUS + 2), to.y);
 }
 
-/// Appends the curve of an edge from the state at the point `at` to itself.
+/// Appends the curve of an edge that leads from the state at the point `at` to itself.
 fn push_loop(html: &mut Html, at: Dot) {
     let top = at.y.saturating_sub(RADIUS - 2);
     let high = at.y.saturating_sub(RADIUS + 34);
@@ -210,8 +210,8 @@ fn push_loop(html: &mut Html, at: Dot) {
     push_point(html, " ", at.x.saturating_add(10), top);
 }
 
-/// Appends the curve of an edge to another state in the same column. The curve is on the right of
-/// both states.
+/// Appends the curve of an edge that leads to another state in the same column. The curve is on the
+/// right of both states.
 fn push_aside(html: &mut Html, from: Dot, to: Dot) {
     push_point(html, "M", from.x.saturating_add(RADIUS), from.y);
     push_point(html, " C", from.x.saturating_add(DEEP), from.y);
@@ -219,7 +219,7 @@ fn push_aside(html: &mut Html, from: Dot, to: Dot) {
     push_point(html, " ", to.x.saturating_add(RADIUS + 2), to.y);
 }
 
-/// Appends the curve of an edge to a state on the left.
+/// Appends the curve of an edge that leads to a state on the left.
 fn push_back(html: &mut Html, from: Dot, to: Dot) {
     let deep = from.y.max(to.y).saturating_add(DEEP);
     push_point(html, "M", from.x, from.y.saturating_add(RADIUS));

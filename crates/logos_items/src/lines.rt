@@ -172,7 +172,7 @@ pub(crate) fn head_at(heads: &[Vec<u8>], leaf: usize) -> &[u8] {
     }
 }
 
-/// Returns the time of the clock, or `None` if it cannot be read.
+/// Returns the time of the clock, or `None` if the clock cannot be read.
 pub(crate) fn now<C: Clock>(clock: &C) -> Option<Duration> {
     match clock.monotonic() {
         Ok(time) => Some(time),

@@ -128,7 +128,7 @@ fn add_record(
     }
 }
 
-/// Appends an object to a block. If memory runs out, the block is empty afterwards.
+/// Appends an object to a block. If memory runs out, the block becomes empty.
 fn push_record(
     alloc: Global,
     block: &mut Vec<u8>,

@@ -19,7 +19,7 @@ use std::alloc::{AllocError, Global};
 use std::io::{ErrorKind, Input, Read, Write};
 use std::time::Clock;
 
-/// The maximum number of bytes of standard input in memory. A longer match is refused.
+/// The maximum number of bytes of standard input in memory. A match with more bytes is refused.
 const MOST: usize = 16_777_216;
 
 /// Writes a line for each item of standard input, and then the counts. Before each read, the items

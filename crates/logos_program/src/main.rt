@@ -18,8 +18,8 @@ use std::io;
 use std::process::ExitCode;
 
 /// Runs `logos` with `arguments`, the arguments of the process, and returns the exit status. The
-/// program prints the lexer of an enum in a file or its state diagram, or lexes another file with
-/// the lexer.
+/// program reads an enum in a file, and prints the enum's lexer or state diagram, or lexes another
+/// file with the lexer.
 fn run_logos(rt: &HostRuntime, arguments: Result<Vec<String>, Failure<'static>>) -> u8
     requires { IfErr arguments (λ failure. (status_of failure ≡ 2) ⊎ (status_of failure ≡ 3)) }
     ensures usage { IfOk arguments.entry (λ passed.

@@ -28,7 +28,7 @@ fn meet_target(order: &mut Order, target: Option<usize>) -> Result<(), AllocErro
     Ok(())
 }
 
-/// Appends to `order` the blocks to which its block at the index `i` leads, except those that are
+/// Appends to `order` the blocks to which its block at the index `i` leads, except blocks that are
 /// already in the order.
 fn meet_targets(
     order: &mut Order,

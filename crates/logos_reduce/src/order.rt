@@ -1,5 +1,5 @@
-//! States in the order in which they are visited. `prune` stores the states that lead to a mark in
-//! an `Order`, and `number` stores the blocks that it visits in an `Order`.
+//! States in the order in which they are visited. `prune` stores such an order of states, and
+//! `number` stores such an order of blocks.
 
 ghost use Rattle.std.specs.Prelude.{true, ◌≡◌, ℕ, ◌+◌, ◌<◌, ◌++◌, ◌∷◌, ◌⊎◌, [], OnOk, IfOk, length, vec_len, slice_index};
 ghost use Rattle.logos_reduce.specs.Imports.{IsOrder, IsMet, Grows};

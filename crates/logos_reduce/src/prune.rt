@@ -18,8 +18,7 @@ fn is_marked(mark: StateMarks) -> bool
     mark.early.is_some() || mark.accept.is_some()
 }
 
-/// Returns whether the state `s` has a mark, or leads, at the end of the input, to a state with a
-/// mark.
+/// Returns whether the state `s` has a mark or leads to a marked state at the end of the input.
 fn is_seed(table: &Table, s: usize) -> bool
     requires { s < size table.now }
     ensures { IsTrue result ↔ IsSeed table.now s }
@@ -33,8 +32,8 @@ fn is_seed(table: &Table, s: usize) -> bool
     }
 }
 
-/// Returns, in ascending order, the states that have a mark, or lead, at the end of the input, to a
-/// state with a mark.
+/// Returns the states that have a mark or lead to a marked state at the end of the input. The
+/// states are in ascending order.
 fn seeds(alloc: Global, table: &Table) -> Result<Order, AllocError>
     ensures len { IfOk result (λ o. vec_len o.numbers ≡ size table.now) }
     ensures only { IfOk result (λ o. (s : ℕ) → IsMet o.numbers.items s → IsSeed table.now s) }

@@ -1,4 +1,5 @@
-//! Reduces a table to its least form. `logos_graph` calls `reduce` with the table of an automaton.
+//! Reduces a table to the least table that records the same matches. `logos_graph` calls `reduce`
+//! with the table of an automaton.
 
 ghost use Rattle.std.specs.Prelude.{◌<◌, IfOk};
 ghost use Rattle.logos_reduce.specs.Views.{IsRaw, IsReductionOf, IsLeast, IsInOrder, IsSpareless, size, YieldsEvidence};

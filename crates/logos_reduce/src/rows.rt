@@ -151,7 +151,7 @@ impl Rows {
     }
 }
 
-/// Returns the target of `row` on the symbol `k`, or `None` if there is none.
+/// Returns the target of `row` on the symbol `k`, or `None` if there is no target.
 pub fn target_at(row: &Row, k: usize) -> Option<usize>
     requires { k < WIDTH }
     ensures { result ≡ target_by row.now k }

@@ -111,7 +111,8 @@ fn note_targets(table: &Table, s: usize, early: Option<usize>, needed: &mut Vec<
     }
 }
 
-/// Returns for each state whether its late mark is needed. `early` is the early mark of each state.
+/// Returns, for each state, whether its late mark is needed. `early` is the early mark of each
+/// state.
 fn needed_marks(
     alloc: Global,
     table: &Table,

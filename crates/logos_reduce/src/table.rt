@@ -11,10 +11,10 @@ use crate::rows::{Row, Rows, WIDTH, target_at};
 /// byte before.
 #[derive(Clone, Copy, PartialEq, Eq, Drop)]
 pub struct StateMarks {
-    /// The late mark: the leaf whose match ends one byte before the state, or `None` if there is
-    /// none.
+    /// The late mark: the leaf whose match ends one byte before the state, or `None` if there is no
+    /// such leaf.
     pub accept: Option<usize>,
-    /// The early mark: the leaf whose match ends at the state, or `None` if there is none.
+    /// The early mark: the leaf whose match ends at the state, or `None` if there is no such leaf.
     pub early: Option<usize>,
 }
 
@@ -82,7 +82,7 @@ impl Table {
         self.rows.get(s)
     }
 
-    /// Returns the target of the state `s` on the symbol `k`, or `None` if there is none.
+    /// Returns the target of the state `s` on the symbol `k`, or `None` if there is no target.
     pub fn target(&self, s: usize, k: usize) -> Option<usize>
         requires state { s < size self.now }
         requires symbol { k < WIDTH }

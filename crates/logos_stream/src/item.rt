@@ -25,7 +25,7 @@ pub enum Streamed {
     Item(StreamItem),
     /// A request to call `Stream::read`, because the next event depends on more bytes.
     More,
-    /// A stop, because the next event depends on more bytes than may be in memory at a time.
+    /// The stream is stopped: the next event depends on more bytes than may be in memory at a time.
     TooLong,
     /// Bytes at `Stream::offset` that are not UTF-8, for a code in UTF-8 mode. All items of the
     /// text before these bytes have been returned.

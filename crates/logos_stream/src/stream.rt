@@ -112,8 +112,9 @@ impl<'c, 's, R: Read + Drop, C: Fn(LeafId, &[u8]) -> Action + Copy> Stream<'c, '
         self.window.read()
     }
 
-    /// Returns the bytes that the last call of `next` passed before its event, without an item. The
-    /// next read from the reader drops these bytes.
+    /// Returns the bytes that the last call of `next` passed before the item that it returned, or
+    /// all bytes that it passed if it returned another event. The next read from the reader drops
+    /// these bytes.
     pub fn skipped(&self) -> &[u8]
         ensures { result.now ≡ self.now.window.skipped }
     {

@@ -31,7 +31,7 @@ pub(crate) struct Window<R> {
     at: usize,
     /// The offset in the part at which the lexable bytes end.
     ready: usize,
-    /// Whether no bytes after the lexable bytes are ever lexed.
+    /// Whether the lexable bytes are the last bytes that are lexed.
     is_last: bool,
     /// The offset in the stream at which the next match attempt begins.
     offset: usize,
@@ -143,7 +143,7 @@ impl<R: Read + Drop> Window<R> {
         self.offset
     }
 
-    /// Returns whether no bytes after the lexable bytes are ever lexed.
+    /// Returns whether the lexable bytes are the last bytes that are lexed.
     pub(crate) fn is_last(&self) -> bool
         ensures { result ≡ self.now.is_last }
     {
@@ -282,8 +282,8 @@ fn pass_front<R: Read + Drop>(parts: &mut Parts<R>, bytes: usize)
 }
 
 /// Returns the number of bytes that must be in memory for the next match attempt, after an attempt
-/// that left `unread` bytes undecided. This is 0 if `unread` is at most `SHORT`, and otherwise
-/// twice `unread`, but at most `bound`.
+/// that left `unread` bytes undecided. The result is 0 if `unread` is at most `SHORT`. Otherwise,
+/// it is twice `unread`, but at most `bound`.
 fn wanted_after(unread: usize, bound: usize) -> usize
     ensures most { result ≤ bound }
     ensures put_off { IsPutOff unread result }

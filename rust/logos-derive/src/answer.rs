@@ -37,7 +37,7 @@ pub struct Diagnostic {
     pub is_error: bool,
     /// The first line of the diagnostic. It begins with the code in brackets if there is a code.
     pub message: String,
-    /// The byte range of the source to which the diagnostic refers.
+    /// The span of the diagnostic: a byte range of the source.
     pub span: Range<usize>,
     /// The byte range of the faulty part of a literal, if this part is not all of `span`.
     pub carets: Option<Range<usize>>,
@@ -46,7 +46,7 @@ pub struct Diagnostic {
     pub notes: Vec<String>,
 }
 
-/// Another byte range of the source to which a diagnostic refers, with a label.
+/// A further span of a diagnostic: a byte range of the source, with a label.
 pub struct Label {
     pub span: Range<usize>,
     pub text: String,

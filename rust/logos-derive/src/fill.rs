@@ -45,8 +45,8 @@ pub fn tokens(
     Ok(Rest { name, fillings }.fill(stream, None).0)
 }
 
-/// Returns the user's tokens for a piece. Returns `None`, so that the printed form of the piece
-/// remains, if the piece does not consist of whole tokens in the source.
+/// Returns the user's tokens for a piece, or `None` if the piece does not consist of whole tokens
+/// in the source. In that case, the printed form of the piece remains.
 fn filling(piece: &Piece, question: &Question) -> Option<Filling> {
     let tokens = question.cut(&piece.source)?;
     let is_in_attribute = question.is_in_attribute(piece.source.start);
@@ -142,7 +142,8 @@ impl Rest {
     }
 
     /// Returns a token tree with its pieces filled in, and the last anchor in it. The token tree is
-    /// shown at this anchor, or at `anchor`, the preceding anchor, if it contains no anchor.
+    /// shown at this anchor. If the token tree contains no anchor, it is shown at `anchor`, the
+    /// preceding anchor.
     fn shown(&mut self, mut tree: TokenTree, anchor: Option<Span>) -> (TokenTree, Option<Span>) {
         let (mut span, mut last) = (tree.span(), None);
         if let TokenTree::Group(group) = &tree {

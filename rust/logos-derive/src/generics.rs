@@ -75,7 +75,7 @@ fn is_brace(tree: &TokenTree) -> bool {
     matches!(tree, TokenTree::Group(group) if group.delimiter() == Delimiter::Brace)
 }
 
-/// Reads parameters between angle brackets, with the brackets, and returns the tokens of each
+/// Reads a list of parameters, including its angle brackets, and returns the tokens of each
 /// parameter.
 fn read_parameters(trees: &mut Trees) -> Vec<Vec<TokenTree>> {
     let (mut found, mut depth, mut after_minus) = (vec![Vec::new()], 0, false);

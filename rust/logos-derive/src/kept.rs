@@ -46,7 +46,7 @@ impl Place {
         Place { asked, path }
     }
 
-    /// Returns the stored answer, or `None` if no answer is stored that can be read.
+    /// Returns the stored answer, or `None` if it does not exist or cannot be read.
     pub fn find(&self) -> Option<Answer> {
         let bytes = fs::read(&self.path).ok()?;
         record::read(&bytes, &self.asked)
@@ -83,8 +83,8 @@ fn folder() -> PathBuf {
     Path::new(FOLDER).join("answers")
 }
 
-/// Creates the folder if it does not exist. Removes all its files if they and another file of
-/// `more` bytes would together exceed [`MOST`].
+/// Creates the folder if it does not exist. Removes all its files if their total length, including
+/// another file of `more` bytes, would exceed [`MOST`].
 fn make_room(more: u64) -> io::Result<()> {
     if !folder().is_dir() {
         fs::create_dir(folder())?;

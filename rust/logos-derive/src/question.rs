@@ -52,8 +52,9 @@ impl Question {
         cut(&self.nodes, range.start, range.end)
     }
 
-    /// Returns the spans of the first and the last token of a field's type, if a variant whose name
-    /// ends at byte offset `end` has one field or more in parentheses. Otherwise returns `None`.
+    /// Returns the spans of the first and the last token of the type of a variant's field. The name
+    /// of the variant ends at the byte offset `end`. Returns `None` if there is no such variant, or
+    /// if it has no field in parentheses. If it has several fields, the spans include all types.
     pub fn field_after(&self, end: usize) -> Option<(Span, Span)> {
         let variants = self.nodes.last()?;
         let after = variants.inner.partition_point(|node| node.from < end);

@@ -3,8 +3,8 @@
 
 use proc_macro::{Delimiter, Group, TokenTree};
 
-/// The remaining token trees. The methods remove token trees from the front, and return whether
-/// these have the required form.
+/// The remaining token trees. The methods remove a certain form of token trees from the front, and
+/// return whether they found this form.
 struct Rest<'a>(&'a [TokenTree]);
 
 /// Returns whether `trees` is one type of the kinds that this module recognizes.

@@ -12,7 +12,8 @@ pub struct Point {
     pub begun: bool,
     /// Whether a condition that a goal requires, such as a match, was met on the way.
     pub met: bool,
-    /// A property of the last match on the way, such as whether it is a match of the searched leaf.
+    /// A property of the last match on the way, such as whether it is a match of the leaf that is
+    /// searched for.
     pub last: bool,
 }
 

@@ -32,7 +32,7 @@ pub struct Blocks {
     ghost within: { (s : ℕ) → s < vec_len of → slice_index of.items s < vec_len splits },
 }
 
-/// Returns `mark` as a key: two marks have the same key only if they are equal.
+/// Returns a key of `mark`. Only equal marks have equal keys.
 fn key_of(mark: StateMarks) -> [usize; 4]
     ensures { result ≡ inside.key_of mark }
 {

@@ -171,8 +171,8 @@ fn split_by_symbol(
     Ok(split)
 }
 
-/// Returns the symbols on which any state leads into the block `b`. `symbols` contains, for each
-/// state, the symbols on which any state leads to it.
+/// Returns the symbols on which some state leads into the block `b`. `symbols` contains, for each
+/// state, the symbols on which some state leads to it.
 fn symbols_into(parts: &Refinement, symbols: &Vec<Symbols>, b: usize) -> Symbols
     requires { b < vec_len parts.now.cuts.splits }
 {

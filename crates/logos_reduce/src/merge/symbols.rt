@@ -1,5 +1,5 @@
-//! Sets of symbols. `refine` stores, for each state, the set of symbols on which any state leads to
-//! it. No proof about blocks depends on these sets.
+//! Sets of symbols. `refine` stores, for each state, the set of symbols on which some state leads
+//! to it. No proof about blocks depends on these sets.
 
 ghost use Rattle.std.specs.Prelude.{◌<◌, ◌≤◌};
 
@@ -86,7 +86,7 @@ fn note_symbols(symbols: &mut Vec<Symbols>, row: &Row) {
     }
 }
 
-/// Returns, for each state, the symbols on which any state leads to it.
+/// Returns, for each state, the symbols on which some state leads to it.
 ///
 /// # Errors
 ///

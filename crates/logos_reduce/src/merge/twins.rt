@@ -24,7 +24,7 @@ pub struct Filing {
 /// The cuts that have been made. Each cut divided a block in two.
 #[derive(Drop)]
 pub struct Cuts {
-    /// For each block, the block to which its hit states last moved, or 0 if none moved.
+    /// For each block, the block to which its hit states last moved, or 0 if no state has moved.
     pub twins: Vec<usize>,
     /// For each block, the split that separated it from a block with a lower number.
     pub splits: Vec<Split>,
