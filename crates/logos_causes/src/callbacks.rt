@@ -258,7 +258,8 @@ fn is_path(label: Tokens<'_, '_>) -> bool {
     begins_path(label)
 }
 
-/// Returns whether `label` begins like a path: with a name other than `move`, a `:` or a `<`.
+/// Returns whether `label` begins like a path: with a name other than `move`, with `:`, or with
+/// `<`.
 fn begins_path(label: Tokens<'_, '_>) -> bool {
     match label.first() {
         Some(TokenTree::Ident(name)) => name.text != "move",
@@ -267,7 +268,7 @@ fn begins_path(label: Tokens<'_, '_>) -> bool {
     }
 }
 
-/// Returns whether a token can be a part of the path of a function, including the types in it.
+/// Returns whether a token can be a part of the path of a function, or of a type in such a path.
 fn is_path_part(tree: TokenTree<'_, '_>) -> bool {
     match tree {
         TokenTree::Ident(_) => true,

@@ -22,7 +22,7 @@ use std::mem;
 /// The clues about the faults of a source, and the warnings for the source.
 #[derive(Debug, Drop)]
 pub struct Explained {
-    /// The clues about the faults of the source's graph, without helps.
+    /// The clues about the faults of the source's graph, without help texts.
     pub clues: Clues,
     /// The warnings for the source.
     pub warnings: Vec<Warning>,
@@ -233,7 +233,7 @@ fn clues_of_leaves(alloc: Global, leaves: Vec<Leaf<'_>>, utf8_mode: bool) -> Res
     }
 }
 
-/// Returns the clues about the faults of a graph, without helps.
+/// Returns the clues about the faults of a graph, without help texts.
 fn clues_of(alloc: Global, graph: &Graph<'_>) -> Result<Clues, AllocError>
     ensures { IfOk result (λ clues. sizes_of clues ≡ set_sizes graph.now.faults) }
 {

@@ -15,8 +15,7 @@ use logos_pattern::leaf::Leaf;
 use logos_report::Meeting;
 use std::alloc::{AllocError, Global};
 
-/// The maximum number of sets of leaves for which a text that all leaves of the set match is
-/// searched.
+/// The maximum number of searches for a text that all leaves of a set match.
 const SEARCHED: usize = 10;
 
 /// Returns the clues about the sets of ambiguous leaves of a graph, in order, one for each set.
@@ -222,9 +221,8 @@ fn push_found(page: &mut Page, input: &[u8], end: usize)
     }
 }
 
-/// Returns the first offset at which a text ends on which exactly the leaves with the numbers `set`
-/// meet, or `usize::MAX` if there is none. `matches` contains all matches from the beginning of the
-/// input.
+/// Returns the end of the first text on which exactly the leaves with the numbers `set` meet, or
+/// `usize::MAX` if there is none. `matches` contains all matches from the beginning of the input.
 fn end_of(matches: &[Match], set: &[usize]) -> usize {
     for one in matches {
         if is_first(*one, set) && is_met(matches, *one, set) {

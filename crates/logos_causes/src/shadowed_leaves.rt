@@ -16,7 +16,7 @@ use logos_report::Warning;
 use logos_warnings::plain_warning;
 use std::alloc::{AllocError, Global};
 
-/// The maximum number of hidden leaves for which the leaf that is found instead is searched.
+/// The maximum number of searches for the leaf that is found instead of a hidden leaf.
 const SEARCHED: usize = 10;
 
 /// Appends a warning to `warnings` for each leaf of a graph that is never found.
@@ -120,9 +120,9 @@ fn warning_of(alloc: Global, leaf: &Leaf<'_>) -> Result<Warning, AllocError>
     Ok(plain_warning(message, leaf.span, None))
 }
 
-/// Adds a text to `warning` on which another leaf is found instead of the leaf with the number
-/// `number`. Also adds the name and the span of the other leaf. Leaves the warning unchanged if
-/// there is no such text.
+/// Explains why the leaf with the number `number` is never found. Adds a text on which another leaf
+/// is found instead, and the name and the span of the other leaf, to `warning`. Leaves the warning
+/// unchanged if there is no such text.
 fn explain(
     alloc: Global,
     graph: &Graph<'_>,

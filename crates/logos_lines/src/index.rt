@@ -104,8 +104,8 @@ impl<'t> LineIndex<'t> {
         }
     }
 
-    /// Returns the byte offset at which the line `line` begins, or `None` if the text has no such
-    /// line.
+    /// Returns the byte offset at which the line with the number `line` begins, or `None` if the
+    /// text has no such line.
     fn start_of(&self, line: usize) -> Option<usize>
         ensures { MatchOption result (IsNoLine self.now line) (IsStart self.now line) }
     {

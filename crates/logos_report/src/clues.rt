@@ -23,7 +23,7 @@ pub struct Clues {
 /// The clue about a set of ambiguous leaves.
 #[derive(Debug, Drop)]
 pub struct Meeting {
-    /// The names of the leaves, in the order of their faults.
+    /// The names of the leaves, in the order of the leaves' faults.
     pub names: Vec<String>,
     /// The text of the note: an input that all leaves of the set match, and the priority that would
     /// decide between them.
@@ -66,7 +66,7 @@ pub struct NextFaults<'c> {
     helps: &'c [Option<&'static str>],
 }
 
-/// A fault of a set of ambiguous leaves.
+/// A fault in a set of ambiguous leaves, with the clue about the set.
 #[derive(Clone, Copy)]
 pub struct Member<'c> {
     pub meeting: &'c Meeting,
@@ -135,7 +135,7 @@ impl<'c> NextFaults<'c> {
         }
     }
 
-    /// Returns the help for the next fault, or `None` if it has none.
+    /// Returns the help for the next fault, or `None` if there is no help.
     pub fn help(self) -> Option<&'static str> {
         *self.helps.first()?
     }

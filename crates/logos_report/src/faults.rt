@@ -1,4 +1,4 @@
-//! Appends faults to a report with their notes and helps, and counts the errors among faults.
+//! Appends faults to a report with their notes and help texts, and counts the errors among faults.
 //! Called by `file_report`, `sets` and other crates.
 
 ghost use Rattle.std.specs.Prelude.{◌≡◌, ◌≤◌, ◌++◌, ◌==◌, ◌∷◌, [], codes, if◌then◌else◌, length, take};
@@ -158,7 +158,7 @@ pub(crate) fn seen_of(faults: &[SpannedError], code: FaultCode) -> usize
     count
 }
 
-/// Returns whether the code of a fault has the name of `code`.
+/// Returns whether the code of a fault has the same name as `code`.
 fn has_code(fault: &SpannedError, code: FaultCode) -> bool
     ensures { result ≡ has_name (name_of code) (fault_of fault.now) }
 {
@@ -216,7 +216,8 @@ pub fn push_summary(page: &mut Page, count: usize)
     page.push("\n");
 }
 
-/// Appends the rest of the line that ends a report: `: aborting due to`, and the number of errors.
+/// Appends the rest of the line that ends a report: `: aborting due to`, and `count` as the number
+/// of errors.
 fn push_count(page: &mut Page, count: usize)
     ensures { Gains (count_text count) page.old page.new }
 {

@@ -31,7 +31,7 @@ pub(crate) fn push_notes(page: &mut Page, shown: ShownFault<'_, '_, '_>)
     page.push("\n");
 }
 
-/// Appends the note about the subpattern whose substitution shifts the byte of a fault, if there is
+/// Appends the note about the subpattern that was substituted before the faulty byte, if there is
 /// such a subpattern.
 fn push_put_in_note(page: &mut Page, shown: ShownFault<'_, '_, '_>)
     ensures { Shows [] page.old page.new }

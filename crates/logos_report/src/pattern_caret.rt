@@ -159,7 +159,7 @@ impl Reader {
         }
     }
 
-    /// Returns the result of `step` for a character that begins a piece. CR occurs only before LF,
+    /// Returns the result of `step` for a character that begins a piece. CR occurs only before LF
     /// and spells no byte.
     fn begin(self, character: char) -> (LiteralState, usize) {
         if (character == '\\') & !self.is_raw {
@@ -183,8 +183,8 @@ fn escape(character: char) -> (LiteralState, usize) {
     }
 }
 
-/// Returns the result of `Reader::step` for a character after `\u`. The digits so far have the
-/// value `number`.
+/// Returns the result of `Reader::step` for a character after `\u`. `number` is the value of the
+/// digits before the character.
 fn digit(number: u32, character: char) -> (LiteralState, usize) {
     if character == '}' {
         return (LiteralState::Plain, utf8_length(number));

@@ -79,7 +79,8 @@ fn push_begin(page: &mut Page, part: Part<'_, '_>, fault: &SpannedError, label: 
     push_marked(page, part, fault, label)
 }
 
-/// Appends the clue about a set of ambiguous leaves, if `member` is the last fault of the set.
+/// Appends the clue about a set of ambiguous leaves if `member` is the last fault of the set.
+/// Otherwise appends nothing.
 fn push_end(page: &mut Page, shown: ShownFault<'_, '_, '_>, member: Member<'_>)
     ensures { Shows [] page.old page.new }
 {

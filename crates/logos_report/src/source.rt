@@ -29,8 +29,8 @@ impl Part<'_, '_> {
 }
 
 impl<'t> Part<'_, 't> {
-    /// Returns the text at a span in bytes of the part, or an empty text if the file has no such
-    /// span.
+    /// Returns the text at `span`, a span in bytes of the part, or an empty text if the file has no
+    /// such span.
     pub fn text_at(self, span: Span) -> &'t str {
         let from = span.from.saturating_add(self.offset);
         let to = span.to.saturating_add(self.offset);

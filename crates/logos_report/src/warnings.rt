@@ -1,5 +1,5 @@
-//! Warnings: probable mistakes that are not faults. Used by `logos_file_warnings`, `logos_messages`
-//! and the crates that find warnings.
+//! Defines warnings about probable mistakes that are not faults, and appends warnings to a report.
+//! Used by `logos_file_warnings`, `logos_messages` and the crates that find warnings.
 
 ghost use Rattle.std.specs.Prelude.{◌≡◌, ◌++◌, ◌∷◌, [], codes, string_bytes};
 ghost use Rattle.logos_report.specs.Views.{IsInLine, shown_text, Gains, Shows, painted, location_line, all_texts, left_out_line, left_out_texts, shown_of, warning_head, warning_texts, warnings_texts};
@@ -13,7 +13,7 @@ use logos_token::token::Span;
 /// The maximum number of warnings that are shown for a part of a file.
 const MOST: usize = 50;
 
-/// A probable mistake, which is not a fault, in a part of a file.
+/// A warning about a probable mistake in a part of a file. The mistake is not a fault.
 #[derive(Debug, Drop)]
 pub struct Warning {
     /// The message about the probable mistake, on one line.

@@ -10,7 +10,8 @@ use logos_page::{Page, columns_of};
 
 /// The width of the shown part of a line, in columns.
 const COLUMNS: usize = 140;
-/// The maximum number of columns before the first caret for which none of them is left out.
+/// The maximum number of columns before the first caret that are shown without leaving any of them
+/// out.
 const NEAR: usize = 100;
 /// The number of columns before the first caret that are shown if earlier columns are left out.
 const FRONT: usize = 60;
@@ -77,7 +78,7 @@ fn near_start(bytes: &[u8], offset: usize) -> usize {
     from
 }
 
-/// Returns the end of the text that begins at `from`: the end of its line, or the offset `last` if
+/// Returns the end of a text that begins at `from`: the end of the line, or the offset `last` if
 /// the line ends later.
 fn near_end(bytes: &[u8], from: usize, last: usize) -> usize {
     let mut to = from;

@@ -22,8 +22,8 @@ pub(crate) fn derives(tokens: Tokens<'_, '_>) -> bool
     false
 }
 
-/// Returns whether the first attribute derives `Logos`, and the tokens after the attribute. Returns
-/// `None` if the run does not begin with an attribute.
+/// Returns the tokens after the first attribute, with a `bool` that is `true` if the attribute
+/// derives `Logos`. Returns `None` if the run does not begin with an attribute.
 fn first_attribute<'t, 's>(tokens: Tokens<'t, 's>) -> Option<(bool, Tokens<'t, 's>)>
     ensures { MatchOption result (derives (tokens_of tokens.entry) ≡ false)
         (λ read. (derives (tokens_of tokens.entry) ≡ (read.0 || derives (tokens_of read.1)))
@@ -36,8 +36,8 @@ fn first_attribute<'t, 's>(tokens: Tokens<'t, 's>) -> Option<(bool, Tokens<'t, '
     }
 }
 
-/// Returns whether the brackets after the `#` of an attribute derive `Logos`, and the tokens after
-/// the brackets. Returns `None` if the run does not begin with brackets.
+/// Returns the tokens after the brackets of an attribute, with a `bool` that is `true` if the
+/// brackets derive `Logos`. Returns `None` if the run does not begin with brackets.
 fn bracketed<'t, 's>(tokens: Tokens<'t, 's>) -> Option<(bool, Tokens<'t, 's>)>
     ensures { MatchOption result (derives_after (tokens_of tokens.entry) ≡ false)
         (λ read. (derives_after (tokens_of tokens.entry)

@@ -78,7 +78,7 @@ fn skip_attributes<'t, 's>(tokens: Tokens<'t, 's>) -> Tokens<'t, 's>
     rest
 }
 
-/// Returns the kind of an item from the tokens after its visibility.
+/// Returns the kind of an item. `tokens` begin after the visibility of the item.
 fn kind_at<'t, 's>(tokens: Tokens<'t, 's>) -> ItemKind<'t, 's>
     ensures { kind_value result ≡ kind_at (tokens_of tokens.entry) }
 {

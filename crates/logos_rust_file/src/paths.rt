@@ -44,7 +44,7 @@ fn before(text: &str, found: FoundEnum) -> &str {
     }
 }
 
-/// Returns the name of an enum, or an empty text if it has none.
+/// Returns the name of an enum, or an empty text if the enum has no name.
 fn name_in(text: &str, found: FoundEnum) -> &str
     ensures { IsNameAt text.now found.name result.now }
 {

@@ -103,7 +103,7 @@ fn push_called_arm(
     Ok(())
 }
 
-/// Returns whether a leaf has a callback, or a variant with a field.
+/// Returns whether a leaf has a callback or a variant with a field.
 fn is_called(leaf: &CodeLeaf<'_>) -> bool
     ensures { result ≡ is_called leaf.now }
 {

@@ -151,7 +151,7 @@ pub(crate) fn push_bit(text: &mut String, test: usize) -> Result<(), Memory>
     Ok(())
 }
 
-/// Appends the test of a byte, as an expression of type `bool`.
+/// Appends the test of the byte of the input as an expression of type `bool`.
 fn push_test(text: &mut String, test: &Condition) -> Result<(), Memory>
     ensures { OnOk result (string_bytes text.new
         ≡ string_bytes text.old ++ test_text (condition_of test.now)) }

@@ -10,7 +10,7 @@ use logos_code::code::{CodeParts, Condition, Config, Fork, NOWHERE};
 use logos_token::error::Memory;
 use std::alloc::Global;
 
-/// Appends a branch, and a space.
+/// Appends a branch and a space.
 fn push_branch(text: &mut String, branch: &(Condition, usize), shape: Config) -> Result<(), Memory>
     ensures { OnOk result (Adds (branch_text shape (branch_of branch.now) ∷ [])
         (string_bytes text.old) (string_bytes text.new)) }
@@ -159,7 +159,7 @@ fn push_next_table(
     push_jumps(text, table, shape)
 }
 
-/// Appends a jump table, and the call of the target's function, in the shape with a function for
+/// Appends a jump table and the call of the target's function, in the shape with a function for
 /// each state.
 fn push_call(
     alloc: Global,

@@ -29,8 +29,8 @@ pub struct Around<'t, 's> {
     pub source: &'static str,
 }
 
-/// Appends the text before a body. `lead` is the text before the function that lexes, and `core` is
-/// the path of Rust's `core`, with the gap after it.
+/// Appends the text before the body of a lexer. `lead` is the text before the function that lexes,
+/// and `core` is the path of Rust's `core`, with the gap after it.
 pub(crate) fn push_front(
     alloc: Global,
     sink: &mut Sink,

@@ -15,7 +15,7 @@ use logos_token::token::Ident;
 use logos_type::print_type;
 use std::alloc::Global;
 
-/// Appends the enum of the leaves. Each variant has the number of its leaf.
+/// Appends the enum of `count` leaves. Each variant has the number of its leaf.
 pub(crate) fn push_leaf_names(text: &mut String, count: usize) -> Result<(), Memory>
     ensures { OnOk result (Grows (string_bytes text.old) (string_bytes text.new)) }
 {

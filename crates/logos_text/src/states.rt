@@ -158,7 +158,7 @@ pub(crate) fn push_states(
     Ok(())
 }
 
-/// Appends the names of `count` states, sorted as texts.
+/// Appends the names of `count` states, in lexicographic order.
 fn push_state_names(alloc: Global, text: &mut String, count: usize) -> Result<(), Memory>
     ensures { OnOk result (Grows (string_bytes text.old) (string_bytes text.new)) }
 {
@@ -179,7 +179,7 @@ fn push_state_name(text: &mut String, n: usize, name: &str) -> Result<(), Memory
     Ok(())
 }
 
-/// Returns the names of `count` states, sorted as texts.
+/// Returns the names of `count` states, in lexicographic order.
 fn state_names(alloc: Global, count: usize) -> Result<Vec<String>, Memory> {
     let mut names = Vec::new(alloc);
     for s in 0..count {

@@ -12,9 +12,9 @@ use logos_token::util::{after_path_mark, after_word};
 #[derive(Clone, Copy)]
 pub(crate) enum AttributeSite {
     OnEnum,
-    /// On a variant without helper attributes.
+    /// A variant without helper attributes.
     OnVariant,
-    /// On a variant with a helper attribute.
+    /// A variant with a helper attribute.
     OnLeaf,
 }
 

@@ -110,8 +110,8 @@ pub fn item_warnings(
     Ok(warnings)
 }
 
-/// Returns the warnings for `mistakes`, mistakes in the enum `name`. A mistake that is not a
-/// warning for `origin` is left out.
+/// Returns the warnings for `mistakes` in the enum `name`. A mistake that is not a warning for
+/// `origin` is left out.
 fn warnings_about(
     alloc: Global,
     name: &str,

@@ -72,8 +72,8 @@ fn begins_before(found: &[Span], offset: usize) -> bool {
     }
 }
 
-/// Appends the spans of all `derive` lists in a run and its groups that contain the derive macro to
-/// `found`.
+/// Searches a run and its groups for `derive` lists that contain the derive macro, and appends the
+/// spans of these lists to `found`.
 #[cycle(search)]
 fn search_run(run: Tokens<'_, '_>, found: &mut Vec<Span>) -> Result<(), AllocError> {
     let mut rest = run;

@@ -20,8 +20,8 @@ const CONDITION: &str = "the attribute in this `cfg_attr` is passed over";
 
 const CONDITION_HELP: &str = "write it alone, or derive the lexer in place";
 
-/// Appends the warnings for the attributes `end` and `cfg_attr` that the lexer of an enum ignores
-/// to `warnings`, in source order.
+/// Appends to `warnings`, in source order, a warning for each attribute `end` or `cfg_attr` that
+/// the lexer of an enum ignores.
 pub(crate) fn add_others(
     item: &ItemEnum<'_, '_>,
     warnings: &mut Vec<Warning>,

@@ -6,7 +6,7 @@ use crate::rules::Step;
 use crate::source::Source;
 
 /// Erases the attribute whose `#` is token number `n`, and returns the number of the attribute's
-/// last token. Appends the `impl` that replaces a derive of `Clone` to `added`. Refuses an unknown
+/// last token. Appends to `added` the `impl` that replaces a derive of `Clone`. Refuses an unknown
 /// attribute.
 pub(crate) fn attribute(source: &mut Source<'_>, n: usize, added: &mut String) -> Step {
     let open = if source.at(n + 1) == "!" { n + 2 } else { n + 1 };

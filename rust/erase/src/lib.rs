@@ -6,7 +6,7 @@
 //!   become other names of the same width. Each remaining token therefore keeps its line and its
 //!   column, and an error of the compiler or a panic names the line of the `.rt` file.
 //! - Lines are added only after the last line: `use` declarations, and an `impl` of `Clone` for
-//!   each derive of `Clone` that Rust does not have.
+//!   each derive of `Clone` that is removed.
 //! - Unknown forms are refused, with their file, line and column.
 #![forbid(unsafe_code)]
 
