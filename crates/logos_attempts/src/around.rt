@@ -17,7 +17,7 @@ use std::str;
 pub enum SurroundingKind {
     /// A skipped match.
     Skip,
-    /// A match of the leaf at this index, which is not skipped.
+    /// A match that is not skipped, with the index of its leaf.
     Leaf(usize),
     /// Bytes that no leaf matches.
     Error,
@@ -31,10 +31,10 @@ pub struct Surrounding {
     pub to: usize,
 }
 
-/// Returns the match or the error that a lexer finds around the byte `offset` of an input. It
-/// begins before the offset and ends after it. The lexer begins at the first byte, and calls no
-/// callback. Returns `None` if there is no such match or error, or if the lexer refuses the input
-/// because the input is not UTF-8.
+/// Returns the match or the error that a lexer finds around the byte `offset` of an input. The
+/// match or error begins before the offset and ends after it. The lexer begins at the first byte,
+/// and calls no callback. Returns `None` if there is no such match or error, or if the lexer
+/// refuses the input because the input is not UTF-8.
 pub fn match_around(code: &Code<'_>, input: &[u8], offset: usize) -> Option<Surrounding>
     requires { offset ≤ length input.now }
     ensures { IfSome result (IsAround code.now input.now offset) }

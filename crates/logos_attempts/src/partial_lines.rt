@@ -28,8 +28,8 @@ struct ReadStart<'a, 's> {
 
 /// Appends the lines of partial matches from the byte offset `from` of an input, if a lexer finds
 /// an error at this offset. At most eight leaves that read at least one byte have a line. The line
-/// of a leaf shows the bytes that the leaf reads and the bytes that can follow. Leaves that read
-/// furthest come first, and a line with the number of the omitted leaves comes last.
+/// of a leaf shows the bytes that the leaf reads and the bytes that can follow. The leaves that
+/// read furthest come first, and a line with the number of omitted leaves comes last.
 ///
 /// # Errors
 ///
@@ -89,7 +89,7 @@ fn lines_of(
 }
 
 /// Appends the lines of the first `SHOWN` partial matches by rank, and a line with the number of
-/// the omitted ones.
+/// omitted partial matches.
 ///
 /// # Errors
 ///
@@ -163,8 +163,8 @@ fn rank_of(partials: &[PartialMatch], partial: &PartialMatch) -> usize {
     rank
 }
 
-/// Returns whether `one` comes before `other`: whether it ends later, or ends at the same offset
-/// and has an earlier leaf.
+/// Returns whether `one` comes before `other`. A partial match that ends later comes first. If both
+/// end at the same offset, the partial match of the earlier leaf comes first.
 fn is_before(one: &PartialMatch, other: &PartialMatch) -> bool {
     (one.end > other.end) | ((one.end == other.end) & (one.leaf < other.leaf))
 }

@@ -1,5 +1,5 @@
-//! Finds partial matches. A partial match is the longest prefix of a match of a leaf at an offset
-//! of an input, together with the bytes that continue the prefix. Called by `partial_lines`.
+//! Finds partial matches. A partial match is the longest prefix of a leaf's match that an input has
+//! at an offset, together with the bytes that continue the prefix. Called by `partial_lines`.
 
 use crate::classes::run_at;
 use logos_automaton::dfa::Dfa;
@@ -9,14 +9,14 @@ use logos_graph::graph::Graph;
 use std::alloc::{AllocError, Global};
 use std::ops::RangeInclusive;
 
-/// The longest nonempty prefix of a match of a leaf that an input has at an offset.
+/// The longest nonempty prefix of a leaf's match that an input has at an offset.
 #[derive(Debug, Drop)]
 pub struct PartialMatch {
     /// The index of the leaf.
     pub leaf: usize,
     /// The byte offset of the input at which the prefix ends.
     pub end: usize,
-    /// The bytes that continue the prefix, or before which a match ends.
+    /// The bytes that continue the prefix, and the bytes before which a match ends.
     pub next: ByteClass,
     /// The bytes after which a match ends if the input ends after the byte.
     pub last: ByteClass,
@@ -79,8 +79,8 @@ fn walk_of(alloc: Global, dfa: &Dfa, input: &[u8], from: usize) -> Result<Walk, 
     Ok(walk)
 }
 
-/// Returns for each state the byte offset of the end of the longest run of the input from `from` on
-/// that leads to the state, or 0 if no run leads to the state.
+/// Returns for each state the byte offset at which the longest run that begins at `from` and leads
+/// to the state ends. The offset is 0 if no run leads to the state.
 fn ends_of(alloc: Global, dfa: &Dfa, input: &[u8], from: usize) -> Result<Vec<usize>, AllocError> {
     let mut ends = vec![in alloc; 0; state_count(dfa)]?;
     let mut state = dfa.start().index();

@@ -180,7 +180,7 @@ fn first_comparison(
     ))
 }
 
-/// A comparison of a byte with a range, except for some bytes of the range.
+/// A comparison that holds for the bytes of a range, except for some bytes of the range.
 #[derive(Debug, Drop)]
 pub struct Comparisons {
     /// The range, which includes both of its ends.
@@ -203,8 +203,9 @@ impl Comparisons {
     }
 
     /// Returns the number of operations that test a byte. A range of a single byte counts as one
-    /// operation. Any other range counts as one operation if its start is above 0, and one more if
-    /// its end is below 255. Each exception counts as one operation.
+    /// operation. For any other range, a start above 0 counts as one operation, and so does an end
+    /// below
+    /// 255. Each exception counts as one operation.
     pub fn count_ops(&self) -> usize
         ensures { result ≡ operations (comparison_of self.now) }
     {

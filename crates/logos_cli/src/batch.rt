@@ -227,8 +227,8 @@ fn order_at<'e>(order: ExpandOrder<'_>, batch_file: &'e BatchFile<'_>) -> Expand
     }
 }
 
-/// Returns an ending with the higher exit status of two endings. Its messages were written if the
-/// messages of both endings were.
+/// Combines two endings. The result has the higher exit status, and its `is_written` is `true` if
+/// the messages of both endings were written.
 fn joined(one: Ending, other: Ending) -> Ending
     ensures status { (result.status ≡ one.status) ⊎ (result.status ≡ other.status) }
     ensures highest { (one.status ≤ result.status) × (other.status ≤ result.status) }

@@ -35,8 +35,8 @@ pub(crate) struct StaleFile<'t> {
 }
 
 /// Returns the refusal of a file that is missing or differs from the result. The refusal shows the
-/// first lines that differ, and the shape in the file's first line if it is not the shape of the
-/// result. Returns `Memory` if memory runs out.
+/// first lines that differ, and the shape in the file's first line if this shape differs from the
+/// shape of the result. Returns `Memory` if memory runs out.
 pub(crate) fn difference<'w, F: ComparableFiles>(
     alloc: Global,
     stale: &StaleFile<'_>,
@@ -168,8 +168,8 @@ fn push_cut(page: &mut Page, line: &str) {
     page.push("\n");
 }
 
-/// Appends the help about the shape in the first line of a file, if it is not the shape of the
-/// result.
+/// Appends the help about the shape in the first line of a file if this shape differs from the
+/// shape of the result.
 fn push_shape(page: &mut Page, found: &str, stale: &StaleFile<'_>) {
     let wanted = shape_name(stale.shape);
     match named_shape(found) {

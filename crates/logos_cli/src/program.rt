@@ -135,7 +135,8 @@ pub(crate) fn run<F: ComparableFiles, O: Write, E: Write + IsTerminal>(
     }
 }
 
-/// Returns the ending of a request that has no warnings. Writes the message if the request failed.
+/// Returns the ending of a request that has no warnings. If the request failed, writes the message
+/// of the failure.
 fn ended<E: Write>(done: Result<(), Failure<'_>>, err: &mut E) -> Ending
     requires { IfErr done (λ failure. status_of failure ≡ 3) }
     ensures { (result.status ≡ 3) ⊎ (result.status ≡ 0) }

@@ -65,7 +65,7 @@ pub fn items_go_over<C: Fn(LeafId, &[u8]) -> Action, D: Fn(LeafId, &[u8]) -> Act
     ensures { ItemsGoOver (answers_of C.Fn callback.now) (answers_of D.Fn other.now) }
 {}
 
-/// A text is an input of lexers in both modes.
+/// A text is an input of lexers with and without UTF-8 mode.
 pub fn a_text_is_an_input(text: &str)
     ensures { (utf8 : Bool) → IsInput utf8 text.now }
 {
@@ -73,7 +73,7 @@ pub fn a_text_is_an_input(text: &str)
     let _ = text.as_bytes();
 }
 
-/// Bytes are an input of lexers that are not in UTF-8 mode.
+/// Any bytes are an input of lexers that are not in UTF-8 mode.
 pub fn bytes_are_an_input(bytes: &[u8])
     ensures { IsInput false bytes.now }
 {

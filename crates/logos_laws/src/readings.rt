@@ -16,9 +16,9 @@ pub fn pieces_in_turn()
         list ≡ pieces run }
 {}
 
-/// The result of stripping an enum consists of all of its tokens except the helper attributes and
-/// some entries of `derive`s. The helper attributes of the enum, of its variants and of their
-/// fields are left out. The lists of the enum's `derive`s lose the entries that name the macro.
+/// Stripping an enum removes exactly the helper attributes of the enum, of its variants and of
+/// their fields, and the entries of the enum's `derive`s that name the macro. All other tokens are
+/// unchanged.
 pub fn strips_by_parts()
     ensures are { (tokens : TokenList) (value : EnumValue) → Reads tokens (Ok value) →
         EnumStays value tokens (stripped tokens) }
@@ -26,8 +26,8 @@ pub fn strips_by_parts()
         EnumStays value tokens remaining → remaining ≡ stripped tokens }
 {}
 
-/// If an offset is counted from the beginning of a part of a file, the offset from the beginning of
-/// the file is the sum of this offset and the offset of the part, if the sum is less than 2^64.
+/// The offset of a point in a file is the sum of its offset in a part of the file and the offset of
+/// this part, if the sum is less than 2^64.
 pub fn offsets_are_sums()
     ensures report { (begin offset : ℕ) → offset + begin < 2 ^ 64 →
         in_file begin offset ≡ offset + begin }
@@ -68,7 +68,7 @@ pub fn short_reports_are_whole()
 
 /// If consecutive leaves are the remaining leaves of a variant, the next line of the totals
 /// contains the sum of their numbers of items, or 2^64 - 1 if the sum is greater. There is no such
-/// line if the sum is 0. The lines of the leaves after these leaves follow.
+/// line if the sum is 0. The lines of the later leaves follow.
 pub fn totals_are_sums()
     ensures { (leaves : List CodeLeaf) (counts : List ℕ) (from size last total left : ℕ) →
         AreOfVariant leaves counts from size last total →

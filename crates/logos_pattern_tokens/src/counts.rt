@@ -1,5 +1,5 @@
-//! Reads numbers and repetition operators with counts. The readers of tokens call this module after
-//! an atom and in escapes.
+//! Reads numbers, and repetition operators with counts, from the text of a pattern. The readers of
+//! tokens call this module after an atom and in escapes.
 
 ghost use Rattle.std.specs.Prelude.{◌≡◌, ◌==◌, option_map, position};
 ghost use Rattle.logos_pattern_tokens.specs.Views.{Yields, token_view, is_digit, hex_digit, hex_from, scalar_of, cut_at, number_from, fits, number_at, lazy_at, count_end, order_at, most_at, bounds_at, count_at};
@@ -7,7 +7,7 @@ ghost use Rattle.logos_pattern_tokens.specs.Views.{Yields, token_view, is_digit,
 use crate::error::{Fault, Kind};
 use crate::token::{Operator, Token};
 
-/// Returns the value of a hexadecimal digit, or `None` if `c` is not one.
+/// Returns the value of the hexadecimal digit `c`, or `None` if `c` is not a hexadecimal digit.
 pub fn hex_digit(c: char) -> Option<u32>
     ensures { result ≡ hex_digit c }
 {
@@ -161,8 +161,8 @@ fn count_end<'t>(
 ///
 /// # Errors
 ///
-/// Returns `Unclosed` if the text is empty, `CountOrder` if the second count is less than the
-/// first, and otherwise the errors of `number_at` and `count_end`.
+/// Returns `Unclosed` if the text is empty, `CountOrder` if the second count is less than `least`,
+/// and the errors of `number_at` and `count_end`.
 #[tactic(auto, unfolding(crate::specs::Token::most_at, crate::specs::Token::order_at))]
 fn most_at(least: u32, text: &[char]) -> Result<(Token<'_>, &[char]), Fault>
     ensures { Yields (λ x. (token_view x.0, x.1.now)) result (most_at least text.now) }

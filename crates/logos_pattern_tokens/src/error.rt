@@ -27,9 +27,9 @@ pub enum Kind {
     FlagUnsupported,
     /// Text after `(?` that is not a flag setting.
     FlagSyntax,
-    /// A look-around group such as `(?=`, or a group with a malformed or repeated name.
+    /// A look-around group such as `(?=..)`, or a group with a malformed or repeated name.
     GroupSyntax,
-    /// A backslash before a character that it cannot escape.
+    /// A backslash before a character that cannot be escaped.
     EscapeUnknown,
     /// A numeric escape without digits, with too few digits, or with characters that are not
     /// digits.

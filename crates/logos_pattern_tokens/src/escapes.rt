@@ -53,8 +53,8 @@ fn contains(name: &[char], c: char) -> bool
     name.contains(&c)
 }
 
-/// Returns whether a property name contains `=` or `:`, which separate a value, or begins with `^`,
-/// which negates it.
+/// Returns whether the name of a property contains `=` or `:`, or begins with `^`. Such a name has
+/// a value or is negated.
 fn is_form(name: &[char]) -> bool
     ensures { result ≡ is_form name.now }
 {
@@ -233,7 +233,7 @@ fn boundary_at(text: &[char]) -> Result<(Atom, &[char]), Fault>
     }
 }
 
-/// Returns the fault of a backslash before the character `c`, which it cannot escape.
+/// Returns the fault of a backslash before the character `c`, which cannot be escaped.
 fn no_escape(c: char) -> Kind {
     match c {
         '<' | '>' => Kind::WordBoundaryForm,

@@ -87,7 +87,7 @@ fn python_at(text: &[char]) -> Result<(Token<'_>, &[char]), Fault>
     }
 }
 
-/// The letters of a flag setting that were read so far.
+/// The part of a flag setting that has been read so far.
 #[derive(Clone, Copy)]
 pub struct Letters {
     change: Change,
@@ -190,7 +190,8 @@ fn next_letter(letters: Letters, c: char) -> Result<Letters, Fault>
     })
 }
 
-/// Returns `token`, the token of a flag setting that ends here, and the rest of the text.
+/// Returns `token`, the token of a flag setting that ends after `letters`, and the rest of the
+/// text.
 ///
 /// # Errors
 ///

@@ -11,7 +11,8 @@ use crate::openings::group_at;
 use crate::token::{Atom, Token};
 use std::alloc::Global;
 
-/// Reads an escape from the text after its backslash. Returns its token and the rest of the text.
+/// Reads an escape from the text after its backslash. Returns the token of the escape and the rest
+/// of the text.
 ///
 /// # Errors
 ///

@@ -6,7 +6,7 @@ use unicode::sets::Set;
 /// The flags that are on at a point of a pattern's text.
 #[derive(Clone, Copy)]
 pub struct Flags {
-    /// `u`: the pattern matches characters. Without it, the pattern matches bytes.
+    /// `u`: the pattern matches characters. Without the flag, the pattern matches bytes.
     pub unicode: bool,
     /// `i`: letters match in both cases.
     pub ignore_case: bool,
@@ -14,9 +14,9 @@ pub struct Flags {
     pub multi_line: bool,
     /// `s`: `.` matches line ends too.
     pub dot_all: bool,
-    /// `U`: operators are lazy without `?`, and greedy with it.
+    /// `U`: operators are lazy without `?`, and greedy with `?`.
     pub swap_greed: bool,
-    /// `R`: lines end with CR, LF or CR LF. Without it, lines end with LF.
+    /// `R`: lines end with CR, LF or CR LF. Without the flag, lines end with LF.
     pub crlf: bool,
 }
 

@@ -208,8 +208,9 @@ fn inputs_given<'w>(word: &'w str, input: Option<&'w str>) -> Result<Question<'w
     }
 }
 
-/// Returns the question for the matches that start at the location `word`, a line and a column, of
-/// the file at the path `input`. Refuses a missing path.
+/// Returns the question for the matches that start at a location of the file at the path `input`.
+/// `word` is the line and the column of the location. Refuses a malformed `word` and a missing
+/// path.
 fn matches_given<'w>(word: &'w str, input: Option<&'w str>) -> Result<Question<'w>, Failure<'w>>
     ensures requested { IfOk result (λ question. matches_given (location_named word.now)
         (option_map (λ path. path.now) input.entry) ≡ Some (question_value question)) }

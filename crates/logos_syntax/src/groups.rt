@@ -1,5 +1,5 @@
-//! The stack of open groups, which builds the tree of a pattern while the pattern is read. The
-//! parser adds each token to the stack.
+//! The stack of open groups. It builds the tree of a pattern while the pattern is read. The parser
+//! adds each token to the stack.
 
 ghost use Rattle.std.specs.Prelude.{◌≤◌, ◌≡◌, ◌+◌, ◌<◌, length, map, IfOk, OnOk, Some, unwrap_or, vec_len};
 ghost use Rattle.logos_syntax.specs.Imports.{pattern_nesting, tree_of, simplest_tree, flags_after, opening_view, token_view, closes, opens, repeats, sets, bracketed, atom as token_atom, Bracket, set_of, bracket_set, bracket_depth, inner_flags, captures, group_tree, is_greedy};
@@ -56,7 +56,7 @@ fn set_or(change: Option<bool>, flag: bool) -> bool
     change.unwrap_or(flag)
 }
 
-/// Returns the flags `flags` after the flag setting `change`.
+/// Applies the flag setting `change` to `flags`, and returns the new flags.
 fn flags_after(change: Change, flags: Flags) -> Flags
     ensures { result ≡ flags_after change flags }
 {

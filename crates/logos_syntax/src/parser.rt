@@ -231,7 +231,7 @@ pub fn parse(alloc: Global, flags: Flags, regex: &str) -> Result<Hir, PatternErr
     }
 }
 
-/// A text has at most one tree.
+/// With the same flags, a text has at most one tree.
 pub fn one_tree()
     ensures { (flags : FlagsValue) (text : Text) (a b : Tree) (m n : ℕ) → Spells flags text a m →
         Spells flags text b n → (a ≡ b) × (m ≡ n) }

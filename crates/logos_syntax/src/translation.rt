@@ -129,7 +129,7 @@ fn class(alloc: Global, flags: Flags, negated: bool, set: RangeSet) -> Result<Hi
     )
 }
 
-/// Returns the tree of an atom with these flags.
+/// Returns the tree that an atom denotes under the flags `flags`.
 pub(crate) fn atom_tree(alloc: Global, flags: Flags, atom: Atom) -> Result<Hir, AllocError>
     ensures { IfOk result (λ hir. tree_of hir ≡ atom_tree flags atom) }
 {

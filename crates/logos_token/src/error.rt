@@ -37,7 +37,7 @@ impl fmt::Display for Memory {
 
 impl Error for Memory {}
 
-/// A fault: its code, its message and its span in the source.
+/// A fault in a source, with its code, its message and its spans.
 #[derive(Debug, Drop)]
 pub struct SpannedError {
     pub code: FaultCode,

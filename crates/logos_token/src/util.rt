@@ -62,7 +62,7 @@ impl<'a> ToIdent<'a> for &'a str {
     }
 }
 
-/// A stream of tokens, or `Void` for no stream. `Void` is printed as `( )`.
+/// A stream of tokens, or `Void` if there is no stream. `Void` is printed as `( )`.
 #[derive(Drop)]
 pub enum MaybeVoid<'s> {
     Some(TokenStream<'s>),

@@ -47,7 +47,7 @@ fn edge_back<'e>(edges: &'e [(ByteClass, State)], state: usize) -> Option<&'e By
 
 /// Returns the fork of `state`, without the edge from `state` back to itself. The fork is a jump
 /// table if there are more than two edges, including the edge back, and conditions otherwise. Adds
-/// new tests and a new jump table to `tables`.
+/// the tests and the jump table to `tables` if they are new.
 pub(super) fn impl_fork(
     alloc: Global,
     tables: &mut NodeTables,
@@ -87,8 +87,8 @@ fn table_of(edges: &[(ByteClass, State)], state: usize) -> [u32; 256]
     table
 }
 
-/// Writes the target of an edge to the entry of each byte of the edge that has no target yet.
-/// Writes nothing if the edge leads back to `state`.
+/// Writes the target of an edge to the entries of the edge's bytes that have no target yet. Does
+/// nothing if the edge leads back to `state`.
 fn fill_edge(table: &mut [u32; 256], edge: &(ByteClass, State), state: usize)
     requires { state_number edge.now.1 < NOWHERE }
     ensures { (b : ℕ) → b < 256 → entry_of (slice_index table.new b) ≡ option_or
@@ -99,7 +99,7 @@ fn fill_edge(table: &mut [u32; 256], edge: &(ByteClass, State), state: usize)
     }
 }
 
-/// Writes `target` to the entry of each byte of the class that has no target yet.
+/// Writes `target` to the entries of the class's bytes that have no target yet.
 fn fill_class(table: &mut [u32; 256], class: &ByteClass, target: u32)
     requires { target < NOWHERE }
     ensures { (b : ℕ) → b < 256 → entry_of (slice_index table.new b)
@@ -110,7 +110,7 @@ fn fill_class(table: &mut [u32; 256], class: &ByteClass, target: u32)
     }
 }
 
-/// Writes `target` to the entry of each byte from `first` to `last` that has no target yet.
+/// Writes `target` to the entries of the bytes from `first` to `last` that have no target yet.
 fn fill_range(table: &mut [u32; 256], first: u8, last: u8, target: u32)
     requires { target < NOWHERE }
     ensures { (b : ℕ) → b < 256 → entry_of (slice_index table.new b)
@@ -121,7 +121,7 @@ fn fill_range(table: &mut [u32; 256], first: u8, last: u8, target: u32)
     }
 }
 
-/// Returns the entry, or `target` if the entry leads nowhere.
+/// Returns `entry`, or `target` if `entry` leads nowhere.
 fn filled(entry: u32, target: u32) -> u32
     requires { target < NOWHERE }
     ensures { entry_of result ≡ hit true target (entry_of entry) }
@@ -130,7 +130,7 @@ fn filled(entry: u32, target: u32) -> u32
 }
 
 /// Returns the conditions and targets of the edges of `state`, without the edge from `state` back
-/// to itself. Adds new tests to `tests`.
+/// to itself. Adds the tests to `tests` if they are new.
 fn conditions_of(
     alloc: Global,
     tests: &mut IndexSet<[bool; 256]>,
@@ -176,7 +176,7 @@ fn add_branch(
 }
 
 /// Returns the condition for the bytes of a class: comparisons, or a test by bits if the
-/// comparisons cost more than two operations. Adds a new test to `tests`.
+/// comparisons cost more than two operations. Adds the test to `tests` if it is new.
 fn condition_of(
     alloc: Global,
     tests: &mut IndexSet<[bool; 256]>,

@@ -28,14 +28,14 @@ pub struct TakeAction {
     pub restart: usize,
 }
 
-/// The macro of fast loops over blocks of `unroll_factor` bytes.
+/// The macro for fast loops over blocks of `unroll_factor` bytes.
 #[derive(Clone, Copy, Debug, PartialEq, Eq)]
 pub struct FastLoopMacro {
     pub unroll_factor: usize,
 }
 
-/// Returns the macro of fast loops over blocks of `unroll_factor` bytes. `unroll_factor` must be at
-/// least 1.
+/// Returns the macro for fast loops over blocks of `unroll_factor` bytes. `unroll_factor` must be
+/// at least 1.
 pub fn fast_loop_macro(unroll_factor: usize) -> FastLoopMacro
     requires { 1 ≤ unroll_factor }
     ensures { result ≡ record { unroll_factor = unroll_factor } }
@@ -163,8 +163,8 @@ impl<'s> Generator<'_, 's> {
     }
 }
 
-/// Returns the number of the state to which a fork has no edge: the state itself if `ignore_self`
-/// is `true`, and otherwise a number that no state has.
+/// Returns the number of the state to which a fork leaves out all edges: the state itself if
+/// `ignore_self` is `true`, and otherwise a number that no state has.
 fn left_out(ignore_self: bool, state: usize) -> usize
     ensures { result ≡ left_out ignore_self state }
 {

@@ -84,8 +84,8 @@ fn tables_made(
     })
 }
 
-/// Returns the states of the code, in the order of the graph's states. Adds new tests and jump
-/// tables to `tables`.
+/// Returns the states of the code, in the order of the graph's states. Adds the tests and jump
+/// tables of the states to `tables` if they are new.
 fn states_of(
     alloc: Global,
     tables: &mut NodeTables,
@@ -108,8 +108,8 @@ fn states_of(
     Ok(made)
 }
 
-/// Returns the code's state for `state`, which has the index `s` in the graph. Adds new tests and a
-/// new jump table to `tables`.
+/// Returns the code's state for `state`, which has the index `s` in the graph. Adds the tests and
+/// the jump table of the state to `tables` if they are new.
 fn state_made(
     alloc: Global,
     tables: &mut NodeTables,

@@ -96,8 +96,9 @@ fn read_inside(
     })
 }
 
-/// Reads a bracket from the text after its `[`. Returns its set, the depth of its innermost point,
-/// and the rest of the text. `base` is the number of groups that are open around the bracket.
+/// Reads a bracket from the text after its `[`. Returns the set of the bracket, the depth of its
+/// innermost point, and the rest of the text. `base` is the number of groups that are open around
+/// the bracket.
 ///
 /// # Errors
 ///

@@ -1,4 +1,4 @@
-//! The stack of open brackets, which computes the set of a bracket while the bracket is read. The
+//! The stack of open brackets. It computes the set of each bracket while the bracket is read. The
 //! reader of brackets adds each token to the stack.
 
 ghost use Rattle.std.specs.Prelude.{◌≡◌, ◌+◌, ◌≤◌, ◌<◌, [], IfOk, OnOk, MatchBool, vec_len, length};
@@ -30,7 +30,7 @@ pub(crate) struct BracketOpening {
 #[derive(Drop)]
 pub(crate) struct BracketFrame {
     negated: bool,
-    /// The operands before the last operator.
+    /// The operands before the last operator that has been read.
     before: OperandRuns,
     /// The operator after the operands in `before`, or `None` if no operator has been read.
     operator: Option<SetOperator>,

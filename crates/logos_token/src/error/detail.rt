@@ -38,7 +38,7 @@ pub struct PatternDetail {
     pub origin: ByteOrigin,
 }
 
-/// The four bytes of a text from an offset on. A byte after the end of the text is 0.
+/// Four bytes of a text, from an offset on. Bytes after the end of the text are 0.
 #[derive(Clone, Copy, Debug)]
 pub struct PatternFront {
     pub first: u8,
@@ -50,16 +50,15 @@ pub struct PatternFront {
 /// The origin of a byte of a pattern's text: the pattern's own literal, or a subpattern.
 #[derive(Clone, Copy, Debug)]
 pub struct ByteOrigin {
-    /// The byte's offset in the text that the pattern's own literal spells. `None` if the byte
-    /// belongs to a substituted subpattern, or to the group around the text of a subpattern.
+    /// The byte's offset in the text that the pattern's own literal spells, or `None` if the byte
+    /// belongs to a substituted subpattern or to the group around the text of a subpattern.
     pub own: Option<usize>,
-    /// The span of the name of the first subpattern that was substituted before the byte. The name
-    /// is the one at the subpattern's definition. `None` if no subpattern was substituted before
-    /// the byte.
+    /// The span of the name in the definition of the first subpattern that was substituted before
+    /// the byte, or `None` if there is no such subpattern.
     pub put_in: Option<Span>,
 }
 
-/// The kind of a fault in a pattern, as `logos_pattern` names it.
+/// The kind of a fault in a pattern, under the name that `logos_pattern` uses.
 #[derive(Clone, Copy, Debug)]
 pub enum PatternKind {
     /// A group, a bracket or a brace that is still open at the end of the text.
@@ -78,9 +77,9 @@ pub enum PatternKind {
     FlagUnsupported,
     /// Characters after `(?` that are not a flag setting.
     FlagSyntax,
-    /// A look-around group such as `(?=`, or a group with a malformed or repeated name.
+    /// A look-around group such as `(?=..)`, or a group with a malformed or repeated name.
     GroupSyntax,
-    /// A backslash before a character that it cannot escape.
+    /// A backslash before a character that cannot be escaped.
     EscapeUnknown,
     /// A numeric escape without digits, with too few digits, or with characters that are not
     /// digits.

@@ -63,7 +63,7 @@ pub enum FaultCode {
     ErrorEmpty,
     /// `error` in an unsupported form.
     ErrorForm,
-    /// An export path that is not a text.
+    /// An export path that is not a string.
     ExportBytes,
     /// `export_dir` in an unsupported form.
     ExportForm,
@@ -85,13 +85,13 @@ pub enum FaultCode {
     Utf8Form,
     /// No literal where a literal is expected.
     LiteralSyntax,
-    /// A literal that is neither a text nor a byte string.
+    /// A literal that is neither a string nor a byte string.
     NotText,
     /// Tokens after an argument.
     UnexpectedToken,
     /// An argument without a name where only named arguments are allowed.
     NamedExpected,
-    /// A priority that is not a number, or a number that does not fit `usize`.
+    /// A priority that is not a number or does not fit `usize`.
     PriorityValue,
     /// A second priority.
     PriorityTwice,
@@ -125,7 +125,7 @@ pub enum FaultCode {
     IgnoreToken,
     /// An unknown name among the arguments.
     UnknownNested,
-    /// A variant whose parentheses contain a number of fields other than one.
+    /// A variant with parentheses that do not contain exactly one field.
     VariantFields,
     /// A variant with named fields.
     NamedFields,
@@ -145,9 +145,9 @@ pub enum FaultCode {
     SubpatternMissing,
     /// A second subpattern with the same name.
     SubpatternTwice,
-    /// A pattern that can match invalid UTF-8, in UTF-8 mode.
+    /// In UTF-8 mode, a pattern that can match invalid UTF-8.
     Utf8Pattern,
-    /// A subpattern that can match invalid UTF-8, in UTF-8 mode.
+    /// In UTF-8 mode, a subpattern that can match invalid UTF-8.
     Utf8Subpattern,
     /// A pattern that matches the empty string.
     EmptyMatch,
@@ -241,7 +241,7 @@ const NAMES: [&str; 75] = [
 ];
 
 impl FaultCode {
-    /// Returns the name of the code, as it is printed.
+    /// Returns the printed name of the code.
     pub fn name(self) -> &'static str
         ensures { result.now ≡ name_of self }
     {

@@ -80,7 +80,7 @@ impl Printer {
         }
     }
 
-    /// Returns the text printed so far, without the gap after its last lexeme.
+    /// Returns the text printed so far, without the gap after the last lexeme.
     pub fn into_text(self) -> String
         ensures { string_bytes result ≡ (printed_of self).text }
     {
@@ -160,7 +160,7 @@ fn leave<'t, 's>(
 }
 
 /// Prints the first tree of `rest`, or closes a group if `rest` is empty. Returns the trees to
-/// print next, or `None` if everything is printed.
+/// print next, or `None` if all trees have been printed.
 fn step<'t, 's>(
     printer: &mut Printer,
     outer: &mut Vec<Outer<'t, 's>>,

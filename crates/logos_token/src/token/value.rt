@@ -30,7 +30,7 @@ fn is_special(escapes: bool, byte: u8) -> bool
 }
 
 /// Returns the byte offset of the first byte from `from` on that does not represent itself, or `to`
-/// if each byte before `to` represents itself.
+/// if each byte before `to` represents itself. `escapes` is `false` for a raw string.
 fn plain_end(source: &str, escapes: bool, from: usize, to: usize) -> usize
     requires inside { from ≤ to }
     requires within { to ≤ length source.now }
@@ -90,8 +90,8 @@ fn add_text(
     Ok(Some(next))
 }
 
-/// Returns the text of a string whose contents are the span from `from` to `to` of `source`.
-/// Returns `None` if the contents do not consist of pieces.
+/// Returns the text of a string whose contents are the bytes from `from` to `to` of `source`.
+/// `escapes` is `false` for a raw string. Returns `None` if the contents do not consist of pieces.
 fn text_between(
     alloc: Global,
     source: &str,
@@ -133,8 +133,9 @@ fn push_bytes(value: &mut Vec<u8>, piece: Piece) -> Result<(), AllocError>
     }
 }
 
-/// Returns the bytes of a byte string whose contents are the span from `from` to `to` of `source`.
-/// Returns `None` if the contents do not consist of pieces.
+/// Returns the bytes of a byte string whose contents are the bytes from `from` to `to` of `source`.
+/// `escapes` is `false` for a raw byte string. Returns `None` if the contents do not consist of
+/// pieces.
 fn bytes_between(
     alloc: Global,
     source: &str,
@@ -162,8 +163,9 @@ fn bytes_between(
     Ok(Some(value))
 }
 
-/// Returns the value of a string or byte string whose contents are the span from `from` to `to` of
-/// `source`. Returns `None` if the contents are malformed or belong to a C string.
+/// Returns the value of a string or byte string whose contents are the bytes from `from` to `to` of
+/// `source`. `escapes` is `false` for a raw literal. Returns `None` if the contents are malformed
+/// or belong to a C string.
 fn value_between(
     alloc: Global,
     source: &str,

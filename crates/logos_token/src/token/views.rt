@@ -18,7 +18,7 @@ pub struct TokenStream<'s> {
     ghost nested: { IsFlat entries.items } by { Prim.hlevel props },
 }
 
-/// A run of neighboring token trees, as a view of their buffer.
+/// A view of a run of neighboring token trees in a buffer.
 #[derive(Clone, Copy)]
 pub struct Tokens<'t, 's> {
     entries: &'t [Entry<'s>],
