@@ -132,8 +132,8 @@ pub(crate) fn skip_extent<'t, 's>(end: End, tokens: Tokens<'t, 's>) -> Tokens<'t
     rest
 }
 
-/// Returns the tokens from the `>` that closes the generic parameters on. Returns no tokens if no
-/// `>` closes the parameters, and all tokens if `<` does not come first.
+/// Returns the tokens from the closing `>` of the generic parameters on, or no tokens if there is
+/// no closing `>`. Returns all tokens if `<` does not come first.
 pub fn skip_generics<'t, 's>(tokens: Tokens<'t, 's>) -> Tokens<'t, 's>
     ensures { tokens_of result ≡ after_generics (tokens_of tokens.entry) }
 {

@@ -106,7 +106,7 @@ pub fn checks(reduced: &Reduction, s: usize, t: usize, bytes: &[u8], at_end: boo
 }
 
 /// Finds bytes that distinguish the states `s` and `t`, which must be different. Returns the bytes,
-/// and `true` if the end of the input follows them. There are fewer bytes than states.
+/// and `true` if the end of the input follows the bytes. There are fewer bytes than states.
 ///
 /// # Errors
 ///

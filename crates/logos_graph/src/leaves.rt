@@ -34,7 +34,7 @@ fn rule_view<'l>(leaf: &'l Leaf<'_>) -> RuleView<'l>
     }
 }
 
-/// Returns the rules of leaves, in the order of the leaves.
+/// Returns the rules of `leaves`, in the order of the leaves.
 pub(crate) fn rule_views<'l>(
     alloc: Global,
     leaves: &'l [Leaf<'_>],

@@ -162,7 +162,7 @@ impl JsonLines {
         self.null();
     }
 
-    /// Appends a member with a text, or with null for `None`.
+    /// Appends a member with a text, or with null if `text` is `None`.
     pub fn push_maybe_text(&mut self, name: &str, text: Option<&str>)
         ensures { Gains (maybe_text name.now (option_map (λ t. t.now) text.entry)) self.old self.new }
     {
@@ -172,7 +172,7 @@ impl JsonLines {
         }
     }
 
-    /// Appends a member with a number, or with null for `None`.
+    /// Appends a member with a number, or with null if `value` is `None`.
     pub fn push_maybe_number(&mut self, name: &str, value: Option<usize>)
         ensures { Gains (maybe_number name.now value) self.old self.new }
     {
@@ -182,7 +182,7 @@ impl JsonLines {
         }
     }
 
-    /// Appends a member with bytes: a text if they are UTF-8, otherwise a list of numbers.
+    /// Appends a member with bytes: a text if the bytes are UTF-8, and a list of numbers otherwise.
     pub fn push_bytes(&mut self, name: &str, bytes: &[u8])
         ensures { Gains (bytes_member name.now bytes.now) self.old self.new }
     {
@@ -192,7 +192,7 @@ impl JsonLines {
         }
     }
 
-    /// Appends a member with bytes, as `push_bytes` does, or with null for `None`.
+    /// Appends a member with bytes as `push_bytes` does, or with null if `bytes` is `None`.
     pub fn push_maybe_bytes(&mut self, name: &str, bytes: Option<&[u8]>)
         ensures { Gains (maybe_bytes name.now (option_map (λ b. b.now) bytes.entry)) self.old
             self.new }

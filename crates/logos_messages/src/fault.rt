@@ -11,7 +11,7 @@ use logos_page::Page;
 use logos_report::{KnownFault, Member, Part, Start, push_fault, push_put_in, put_in};
 use std::alloc::{AllocError, Global};
 
-/// A fault of a part of a file, with the clues about it.
+/// A fault of a part of a file, with the clues about the fault.
 #[derive(Clone, Copy)]
 pub(crate) struct FaultMessage<'f, 'c, 'p, 't> {
     pub(crate) part: Part<'p, 't>,

@@ -10,7 +10,7 @@ use logos_report::Source;
 /// The maximum number of lines after the first line of a span whose lines are shown.
 const LINES: usize = 8;
 
-/// The maximum length of a line that is shown, in bytes.
+/// The maximum length in bytes of a line that is shown.
 pub(crate) const LONG: usize = 400;
 
 /// A span of a file: the locations of its start and of its end.

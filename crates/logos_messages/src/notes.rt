@@ -63,7 +63,7 @@ fn push_known(lines: &mut JsonLines, member: Option<Member<'_>>)
     }
 }
 
-/// Returns a reference to a text, or `None` if there is no text.
+/// Returns a reference to the text, or `None` if `text` is `None`.
 pub(crate) fn text_of(text: &Option<String>) -> Option<&str>
     ensures { option_map (λ t. t.now) result ≡ option_map string_bytes text.now }
 {
@@ -120,7 +120,7 @@ fn push_note(lines: &mut JsonLines, level: &str, text: &str)
     lines.end_object();
 }
 
-/// Appends the members that are empty in a note: its spans, its notes and its report.
+/// Appends the members that are empty in a note: the spans, the notes and the report.
 fn push_nothing_else(lines: &mut JsonLines)
     ensures { Gains nothing_tokens lines.old lines.new }
 {

@@ -66,8 +66,8 @@ fn push_locations(lines: &mut JsonLines, reach: Reach)
     lines.push_number("column_end", reach.last.column);
 }
 
-/// Appends the members with the kind and the label of a span. The span is the primary span of its
-/// fault if `label` is `None`.
+/// Appends a member that states whether a span is the primary span of its fault, and a member with
+/// the label of the span. The span is primary if `label` is `None`.
 fn push_label(lines: &mut JsonLines, label: Option<&str>)
     ensures { Gains (label_tokens (option_map (λ t. t.now) label.entry)) lines.old lines.new }
 {

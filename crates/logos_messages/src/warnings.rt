@@ -37,7 +37,7 @@ pub fn push_warning_messages(
     Ok(())
 }
 
-/// Returns the lines for the warnings `warnings`.
+/// Returns the lines for `warnings`.
 fn warning_lines(
     alloc: Global,
     part: Part<'_, '_>,
@@ -52,7 +52,7 @@ fn warning_lines(
     Ok(bytes)
 }
 
-/// Appends the lines for the warnings `warnings`.
+/// Appends the lines for `warnings`.
 fn push_all(
     lines: &mut JsonLines,
     alloc: Global,

@@ -82,8 +82,8 @@ fn push_found(lines: &mut JsonLines, found: &Option<Vec<u8>>)
     }
 }
 
-/// Appends the members with an input that a leaf loses and the leaf that wins it. Both are null if
-/// the leaf never loses.
+/// Appends the members with an input that a leaf loses and the leaf that wins the input. Both
+/// members are null if the leaf never loses.
 fn push_loss(lines: &mut JsonLines, loss: &Option<Loss>)
     ensures { Gains (loss_members (option_map loss_value loss.now)) lines.old lines.new }
 {
@@ -93,7 +93,8 @@ fn push_loss(lines: &mut JsonLines, loss: &Option<Loss>)
     }
 }
 
-/// Appends the members with an input that a leaf loses, and the number of the leaf that wins it.
+/// Appends the members with an input that a leaf loses, and the number of the leaf that wins the
+/// input.
 fn push_lost(lines: &mut JsonLines, input: &[u8], winner: usize)
     ensures { Gains (bytes_member (codes "loses") input.now ++ number_member (codes "taker") winner)
         lines.old lines.new }

@@ -10,8 +10,7 @@ use logos_graph::graph::Graph;
 use logos_json::JsonLines;
 use std::alloc::{AllocError, Global};
 
-/// Lines of JSON for inputs, and the number of all inputs. The lines may be only those for the
-/// first inputs.
+/// Lines of JSON for the first inputs, and the number of all inputs.
 #[derive(Drop)]
 pub struct InputRecords {
     pub bytes: Vec<u8>,

@@ -11,8 +11,8 @@ use logos_json::JsonLines;
 use logos_pattern::leaf::Leaf;
 use std::alloc::{AllocError, Global};
 
-/// An offset `from` of an input. `leaves` are the leaves of a lexer, and `winner` is the number of
-/// the leaf whose match the lexer takes at the offset.
+/// The offset `from` of the input `input`. `leaves` are the leaves of a lexer, and `winner` is the
+/// number of the leaf whose match the lexer takes at the offset.
 #[derive(Clone, Copy)]
 struct StartRecord<'a, 's> {
     leaves: &'a [Leaf<'s>],

@@ -104,9 +104,9 @@ struct Progress<'l, S, E> {
 }
 
 impl<'l, S: Clock, O: IsTerminal, E: IsTerminal> CountedOutput<'l, S, O, E> {
-    /// Returns an output to standard output to which no bytes have been written. The number of
-    /// written bytes is shown only if `err` is a terminal, `writer` is not, and the system has a
-    /// clock.
+    /// Returns an output to `writer`, the standard output, to which no bytes have been written. The
+    /// number of written bytes is shown only if `err` is a terminal, `writer` is not, and the
+    /// system has a clock.
     pub fn new(
         system: &'l S,
         line: &'l ProgressLine,

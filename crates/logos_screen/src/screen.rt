@@ -25,7 +25,7 @@ impl Screen {
     ghost use Rattle.std.specs.Prelude.{◌≡◌};
     ghost use Rattle.logos_screen.specs.Screens.{is_plain};
 
-    /// Returns whether lines have no colors, and are never cut.
+    /// Returns whether lines have no colors and are never cut.
     #[inline(always)]
     pub fn is_plain(self) -> bool
         ensures { result ≡ is_plain self }
@@ -54,8 +54,8 @@ pub fn screen_of<V: Env>(variables: &V, color: Color, is_terminal: bool) -> Scre
     }
 }
 
-/// Returns whether the environment allows colors, that is, the variable `NO_COLOR` is empty or not
-/// set.
+/// Returns whether the environment allows colors. Colors are allowed if the variable `NO_COLOR` is
+/// empty or not set.
 pub fn allows_colors<V: Env>(variables: &V) -> bool {
     let mut value = [0; 1];
     match variables.var("NO_COLOR", &mut value) {

@@ -55,8 +55,7 @@ pub trait Read {
         done
     }
 
-    /// Returns a reader of the next `limit` bytes of this reader, or of all its bytes if there are
-    /// fewer.
+    /// Returns a reader of at most the next `limit` bytes of this reader.
     fn take(self, limit: u64) -> Take<Self>
     where
         Self: Sized,
@@ -67,8 +66,8 @@ pub trait Read {
 
 /// Appends zeros to `buf`, to be replaced with the bytes that are read.
 ///
-/// The number of zeros is the free capacity of `buf`, but at most [`LARGEST_BLOCK`]. If there is no
-/// free capacity, it is the length of `buf`, but at least [`FIRST_BLOCK`] and at most
+/// The number of zeros is the free capacity of `buf`. If there is no free capacity, the number is
+/// the length of `buf`, but at least [`FIRST_BLOCK`]. In both cases, the number is at most
 /// [`LARGEST_BLOCK`].
 fn lengthen(buf: &mut Vec<u8>) -> core::result::Result<(), AllocError> {
     let len = buf.len();

@@ -9,7 +9,7 @@ mod blocks;
 
 use core::ops::{BitAnd, BitOr, Shr};
 
-/// The types of vectors, which erased files import.
+/// The types of vectors that erased files import.
 pub mod prelude {
     pub use super::{u8x16, u8x32, u8x64, u32x16};
 }

@@ -31,7 +31,7 @@ impl String {
         Ok(copy)
     }
 
-    /// Returns the text that consists of `bytes`, in their allocation.
+    /// Returns the text that consists of `bytes`, without copying the bytes.
     ///
     /// # Errors
     ///
@@ -123,7 +123,7 @@ impl String {
         &self.0
     }
 
-    /// Returns the bytes of the text, in its allocation.
+    /// Returns the bytes of the text, without copying the bytes.
     pub fn into_bytes(mut self) -> Vec<u8> {
         Vec::from_claimed(core::mem::take(&mut self.0).into_bytes())
     }

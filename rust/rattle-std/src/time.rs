@@ -7,7 +7,7 @@ pub use core::time::Duration;
 
 /// A system with a clock.
 pub trait Clock {
-    /// Returns the time since a fixed point in time, which stays unchanged while the program runs.
+    /// Returns the time since a point in time that does not change while the program runs.
     ///
     /// # Errors
     ///

@@ -190,7 +190,7 @@ impl<T> Vec<T> {
         Ok(())
     }
 
-    /// Removes the values from the index `at` on, and returns them as another vector.
+    /// Removes the values from the index `at` on, and returns them in a new vector.
     ///
     /// # Errors
     ///

@@ -56,7 +56,7 @@ impl<'s> Model for Graph<'s> {
 }
 
 impl<'s> Graph<'s> {
-    /// Returns a graph without states, for leaves with the faults `errors`.
+    /// Returns the graph of `leaves`, which have the faults `errors`. The graph has no states.
     pub(crate) fn refused(
         alloc: Global,
         leaves: Vec<Leaf<'s>>,
@@ -83,7 +83,8 @@ impl<'s> Graph<'s> {
         }
     }
 
-    /// Returns the graph that the table of `reduced` represents, for leaves without faults.
+    /// Returns the graph of `leaves`, which have no faults. The table of `reduced` represents the
+    /// graph.
     pub(crate) fn finished(
         alloc: Global,
         leaves: Vec<Leaf<'s>>,

@@ -8,7 +8,8 @@ use super::AllocError;
 use core::fmt;
 use core::sync::atomic::{AtomicUsize, Ordering::Relaxed};
 
-/// The default budget of programs in bytes: 1 GiB. The variable `LOGOS_MEMORY` overrides it.
+/// The default budget of programs in bytes: 1 GiB. The variable `LOGOS_MEMORY` overrides this
+/// default.
 pub const DEFAULT_BUDGET: usize = 1 << 30;
 
 /// The name of the environment variable that overrides the default budget.

@@ -107,8 +107,7 @@ impl Table {
         None
     }
 
-    /// Stores the entry with the index `index` and the hash `hash` in a slot. There must be an
-    /// empty slot.
+    /// Stores the hash `hash` and the index `index` of an entry in an empty slot, which must exist.
     fn set(&mut self, hash: u32, index: usize) {
         let mask = self.places.len() - 1;
         let mut at = hash as usize & mask;

@@ -1,4 +1,4 @@
-//! Replaces the kit's `itoa`: writes numbers in decimal.
+//! Replaces the kit's `itoa`: the conversion of numbers to decimal digits.
 
 /// The two decimal digits of each number below 100.
 static PAIRS: [[u8; 2]; 100] = pairs();

@@ -66,7 +66,7 @@ impl Writer {
         self.token(false, b"]", true)
     }
 
-    /// Writes the name of a member of an object.
+    /// Writes `name` as the name of a member of an object.
     ///
     /// # Errors
     ///

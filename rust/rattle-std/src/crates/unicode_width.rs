@@ -3,7 +3,7 @@
 use super::unicode::number_at;
 use super::unicode_tables::WIDTHS;
 
-/// A character that has a width.
+/// A character with a width on a terminal.
 pub trait UnicodeWidthChar {
     /// Returns the number of columns of the character on a terminal, or `None` for a control
     /// character.

@@ -10,7 +10,8 @@ pub type Result<T> = core::result::Result<T, Error>;
 #[derive(Clone, Copy, Debug)]
 pub struct Error {
     kind: ErrorKind,
-    /// The system's number of the error, or `None` if the system did not report the error.
+    /// The number that the system has for the error, or `None` if the system did not report the
+    /// error.
     code: Option<i32>,
 }
 
@@ -62,8 +63,8 @@ impl From<std::io::Error> for Error {
     }
 }
 
-/// The system's number of the error for links that form a cycle. Rust's error kind for such links
-/// is unstable.
+/// The number that the system has for the error of links that form a cycle. Rust's error kind for
+/// such links is unstable.
 const LINKS_LEAD_ROUND: i32 = if cfg!(any(target_os = "linux", target_os = "android")) {
     40
 } else if cfg!(windows) {

@@ -88,7 +88,7 @@ impl<T: Eq + Hash> IndexSet<T> {
     }
 
     /// Adds `value` to the set unless the set contains an equal value. Returns the index of the
-    /// value in the set, and whether it was added.
+    /// value in the set, and whether `value` was added.
     ///
     /// # Errors
     ///
