@@ -90,9 +90,10 @@ pub(crate) fn run_with<F: ComparableFiles, O: Write, E: Write + IsTerminal>(
     }
 }
 
-/// Runs the program. The exit status is 0 if the request is fulfilled, 1 if it is refused, and 2 if
-/// the arguments are invalid or name the input as the output. It is 3 if a file cannot be read or
-/// written, or if memory runs out. Messages are written to standard error.
+/// Runs the program. The exit status is 0 if the request is fulfilled, and 1 if it is refused. It
+/// is 2 if the arguments are invalid, or if a result would overwrite an input or another result. It
+/// is 3 if a file cannot be read or written, or if memory runs out. Messages are written to
+/// standard error.
 pub(crate) fn run<F: ComparableFiles, O: Write, E: Write + IsTerminal>(
     alloc: Global,
     arguments: &[String],
