@@ -278,9 +278,9 @@ fn is_path_part(tree: TokenTree<'_, '_>) -> bool {
     }
 }
 
-/// Appends the warnings about a closure to `warnings`, beginning with those about tokens of the
-/// body that exit the function around the closure. `run` begins with the closure, or is `None` if
-/// the closure was not found.
+/// Appends the warnings about a closure to `warnings`, beginning with the warnings about tokens of
+/// the body that exit the function around the closure. `run` begins with the closure, or is `None`
+/// if the closure was not found.
 fn add_closure(
     closure: &InlineCallback<'_>,
     run: Option<Tokens<'_, '_>>,

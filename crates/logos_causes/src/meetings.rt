@@ -77,7 +77,7 @@ fn numbers_of(alloc: Global, leaves: &[LeafId]) -> Result<Vec<usize>, AllocError
 }
 
 /// Returns the clue about the set of ambiguous leaves with the numbers `set`. A text that all of
-/// these leaves match is searched only if `is_searched` is `true`.
+/// these leaves match is searched for only if `is_searched` is `true`.
 fn meeting_of(
     alloc: Global,
     graph: &Graph<'_>,
@@ -138,8 +138,9 @@ fn note_of(
     page.finish()
 }
 
-/// Returns the priority of the first leaf in a set of ambiguous leaves, which is the priority of
-/// all of them, or 0 if there is no such leaf.
+/// Returns the priority of the leaves with the numbers `set`, a set of ambiguous leaves, or 0 if
+/// the first of them does not exist. All leaves of the set have the same priority as the first
+/// leaf.
 fn priority_of(leaves: &[Leaf<'_>], set: &[usize]) -> usize {
     let Some(first) = set.first() else {
         return 0;
@@ -209,8 +210,8 @@ fn ascends(set: &[usize]) -> bool
     true
 }
 
-/// Appends the prefix of `input` up to `end`, which is the text on which leaves meet, and the rest
-/// of `input` unless it is empty.
+/// Appends the prefix of `input` up to `end`, on which leaves meet, and the rest of `input` unless
+/// the rest is empty.
 fn push_found(page: &mut Page, input: &[u8], end: usize)
     requires { end ≤ length input.now }
 {

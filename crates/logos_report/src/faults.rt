@@ -188,9 +188,9 @@ fn count_all(faults: &[SpannedError], first: NextFaults<'_>) -> usize
     count
 }
 
-/// Returns whether the report of an error begins with `fault`: whether the fault is an error and is
-/// not shown in the report of an earlier fault of its set. `next` contains the clues from `fault`
-/// on.
+/// Returns whether the report of an error begins with `fault`, that is, whether the fault is an
+/// error that is not shown in the report of an earlier fault of its set. `next` contains the clues
+/// from `fault` on.
 pub fn begins_error(next: NextFaults<'_>, fault: &SpannedError) -> bool
     ensures { result ≡ begins_error (next_value next.entry) (fault_of fault.now) }
 {

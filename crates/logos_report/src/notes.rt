@@ -97,8 +97,8 @@ pub(crate) fn push_help(page: &mut Page, shown: ShownFault<'_, '_, '_>)
 }
 
 /// Appends the nonempty lines of a fault's message after the first line. For an ambiguous leaf, the
-/// first of these lines name the other leaves of the set, and the location of each of these leaves'
-/// faults is appended to the line of the leaf.
+/// first of these lines name the other leaves of the set, each followed by the location of the
+/// leaf's fault.
 fn push_other_lines(page: &mut Page, shown: ShownFault<'_, '_, '_>)
     ensures { Shows [] page.old page.new }
 {

@@ -10,8 +10,7 @@ use logos_page::{Page, columns_of};
 
 /// The width of the shown part of a line, in columns.
 const COLUMNS: usize = 140;
-/// The maximum number of columns before the first caret that are shown without leaving any of them
-/// out.
+/// The maximum width, in columns, of a text before the first caret that is shown whole.
 const NEAR: usize = 100;
 /// The number of columns before the first caret that are shown if earlier columns are left out.
 const FRONT: usize = 60;

@@ -148,7 +148,7 @@ fn push_token(sink: &mut Sink, n: usize, leaf: &CodeLeaf<'_>, name: Ident<'_>) -
     }
 }
 
-/// Appends the match arm of leaf number `n`, which returns the variant `variant` of the enum
+/// Appends the match arm of leaf number `n`. The arm returns the variant `variant` of the enum
 /// `name`.
 fn push_token_arm(
     sink: &mut Sink,

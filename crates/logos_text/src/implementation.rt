@@ -51,8 +51,8 @@ pub(crate) fn push_front(
     Ok(())
 }
 
-/// Appends the path `library` of the library, or `::logos` if it is `None`, and the gap after the
-/// path.
+/// Appends the path `library` of the library, or `::logos` if `library` is `None`, and the gap
+/// after the path.
 fn push_library(
     alloc: Global,
     sink: &mut Sink,

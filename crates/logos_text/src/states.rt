@@ -70,7 +70,8 @@ fn push_at_end(text: &mut String, at_end: Option<usize>, shape: Config) -> Resul
     push(text, " ")
 }
 
-/// Appends the beginning of the state with the number `s`: of a match arm, or of a function.
+/// Appends the head of the state with the number `s`: the pattern of a match arm, or the signature
+/// of a function.
 fn push_head(text: &mut String, s: usize, names: Names<'_>) -> Result<(), Memory>
     ensures { OnOk result (Grows (string_bytes text.old) (string_bytes text.new)) }
 {

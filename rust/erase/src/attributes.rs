@@ -29,7 +29,7 @@ pub(crate) fn attribute(source: &mut Source<'_>, n: usize, added: &mut String) -
 /// remains.
 ///
 /// `Drop` is removed. `Clone` without `Copy` is also removed, because cloning can fail in Rattle
-/// and Rust cannot derive this form of `Clone`: an `impl` is appended to `added` instead. Refuses
+/// and Rust cannot derive this form of `Clone`. An `impl` is appended to `added` instead. Refuses
 /// an unknown name.
 fn derive(source: &mut Source<'_>, n: usize, added: &mut String) -> Result<(), Refusal> {
     let close = source.closing(n + 3);

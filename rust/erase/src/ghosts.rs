@@ -16,9 +16,9 @@ fn skip_blanks(bytes: &[u8], mut at: usize) -> usize {
     at
 }
 
-/// Returns the byte offset after the antt braces that begin at `at` or after the blanks and
-/// comments at `at`. Returns a refusal if no braces begin there or the braces do not end. `item` is
-/// the byte offset of the clause or item with the braces.
+/// Skips the blanks and comments at `at` and the antt braces after them, and returns the byte
+/// offset after the braces. Returns a refusal if there are no braces or the braces do not end.
+/// `item` is the byte offset of the clause or item with the braces.
 fn braces_after(bytes: &[u8], item: usize, at: usize) -> Result<usize, Refusal> {
     let open = skip_blanks(bytes, at);
     if bytes.get(open) != Some(&b'{') {
