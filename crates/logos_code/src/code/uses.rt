@@ -1,5 +1,5 @@
-//! Computes the uses of the matches of leaves, each read with one load. Called by `construction`; a
-//! lexer reads a use at the end of a match.
+//! Computes the uses of the matches of leaves. A lexer reads a use with one load at the end of a
+//! match. Called by `construction`.
 
 ghost use Rattle.std.specs.Prelude.{◌≡◌, IfOk, map};
 ghost use Rattle.logos_code.specs.Views.{use_of, use_by};
