@@ -13,8 +13,8 @@ use logos_token::error::Memory;
 use logos_token::token::{TokenStream, Tokens, tokenize};
 use std::alloc::Global;
 
-/// Returns the tokens of a source without the parts that belong to the derive macro, or the refusal
-/// of tokens that are not an enum.
+/// Returns the tokens of a source without the parts that belong to the derive macro, or a refusal
+/// if the tokens are not an enum.
 fn strip_tokens<'s>(alloc: Global, stream: &TokenStream<'s>) -> Result<TokenStream<'s>, Refusal>
     ensures ok { IfOk result (λ left. AreStripped (stream_tokens stream.now) (stream_tokens left)) }
     ensures err { IfErr result (Refuses (EndsTokens (stream_tokens stream.now))) }
@@ -59,9 +59,10 @@ pub fn strip_attributes<'s>(alloc: Global, src: &'s str) -> Result<TokenStream<'
     }
 }
 
-/// Returns the tokens that `strip_attributes` returns, given `tokens`, those of the source `src`.
-/// The source must spell an enum, such as one from which `generate` has made a lexer. The enum is
-/// not read again.
+/// Returns the tokens of the enum that the source `src` spells, without the parts that belong to
+/// the derive macro, as `strip_attributes` does. `tokens` are the tokens of the source. The source
+/// must spell an enum, such as an enum from which `generate` has made a lexer. The enum is not read
+/// again.
 ///
 /// # Errors
 ///

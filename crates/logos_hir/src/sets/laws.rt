@@ -10,8 +10,8 @@ pub fn same_members(a: &RangeSet, b: &RangeSet)
     ensures { set_of a.now ≡ set_of b.now → pairs a.now.ranges.items ≡ pairs b.now.ranges.items }
 {}
 
-/// The ranges of a set in a tree are canonical, and their members are the characters, or the bytes,
-/// of the set.
+/// The ranges that represent a set in a tree are canonical, and their members are the characters or
+/// the bytes in the set.
 pub fn ranges_of_a_set()
     ensures chars_canonical { (set : ℕ → Bool) → AreCanonical (char_ranges set) }
     ensures chars_members { (set : ℕ → Bool) → members (char_ranges set) ≡ only_chars set }
