@@ -20,8 +20,8 @@ pub(crate) struct AroundOptions<'s> {
 }
 
 impl<'s> AroundOptions<'s> {
-    /// Returns the parts of the text around a body that these options determine. `utf8_mode` is
-    /// whether inputs are UTF-8.
+    /// Returns the parts of the text around a body that the options determine. `utf8_mode` is
+    /// `true` if inputs are UTF-8.
     pub(crate) fn around(&self, utf8_mode: bool) -> Around<'_, 's>
         ensures { around_value result ≡ around_options self.now utf8_mode }
     {
@@ -35,7 +35,7 @@ impl<'s> AroundOptions<'s> {
     }
 }
 
-/// Returns the text of the type of inputs, with the blank after it.
+/// Returns the text of the type of inputs, followed by a blank.
 fn input_text(utf8_mode: bool) -> &'static str
     ensures { result.now ≡ input_text utf8_mode }
 {

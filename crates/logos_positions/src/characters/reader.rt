@@ -12,8 +12,8 @@ pub struct CharacterTable {
     /// The row after each first byte, indexed by the byte, or `None` if no character of the class
     /// begins with the byte.
     pub first: Vec<Option<usize>>,
-    /// The row after each continuation byte, or `None` if no character continues with it: 64
-    /// entries for each row.
+    /// The row after each row and each continuation byte, or `None` if no character continues with
+    /// the byte. Each row has 64 entries.
     pub follow: Vec<Option<usize>>,
     ghost some: { 0 < rows },
     ghost few: { rows < 2 ^ 16 },
