@@ -85,8 +85,7 @@ fn callback_in<'t, 's>(tokens: Tokens<'t, 's>) -> Result<CallbackRun<'t, 's>, Ca
     }
 }
 
-/// Returns the callback `run` with copies of its tokens. `span` is the span of the callback if it
-/// is a closure.
+/// Copies the tokens of `run` into a callback. If the callback is a closure, its span is `span`.
 fn copied<'s>(alloc: Global, run: CallbackRun<'_, 's>, span: Span) -> Result<Callback<'s>, Memory>
     ensures { IfOk result (λ callback. callback_view callback ≡ run_view span run.entry) }
 {

@@ -136,8 +136,8 @@ fn keyed_at<'t, 's>(
     )
 }
 
-/// Returns the piece of `name` and `literal`, and a parser for the tokens after the next lone comma
-/// in `tokens`. Skips the tokens before the comma.
+/// Returns the piece that consists of `name` and `literal`, and a parser for the tokens after the
+/// next lone comma in `tokens`. Skips the tokens before the comma.
 fn beside_at<'t, 's>(
     name: Ident<'s>,
     literal: Literal<'s>,

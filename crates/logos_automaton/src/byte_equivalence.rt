@@ -74,7 +74,7 @@ pub fn kind_bytes() -> [bool; 256]
     first
 }
 
-/// Sets to `true` the flags in `first` of all `bytes`.
+/// Sets `first[byte]` to `true` for each byte in `bytes`.
 pub fn add_bytes(bytes: &[u8], first: &mut [bool; 256])
     ensures { (byte : ℕ) → byte < 256 → slice_index_or first.new byte false ≡ false →
         (slice_index_or first.old byte false ≡ false) × ¬ (Has bytes.now byte) }

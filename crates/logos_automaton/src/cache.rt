@@ -236,8 +236,8 @@ fn push_if(numbers: &mut Vec<usize>, number: usize, is_one: bool) -> Result<(), 
     Ok(())
 }
 
-/// Sets to `true` the flag in `first` of each byte whose step on a live tree differs from the step
-/// of the next smaller byte.
+/// Sets `first[byte]` to `true` for each byte whose step on a live tree differs from the step of
+/// the next smaller byte.
 fn add_changes(steps: &[TreeSteps], live: LiveTree, first: &mut [bool; 256])
     ensures { (x : ℕ) → x + 1 < 256 → slice_index_or first.new (x + 1) false ≡ false →
         (slice_index_or first.old (x + 1) false ≡ false)

@@ -135,8 +135,8 @@ pub fn end_after(
     end_as_by_zero(trees, states, state, by_zero)
 }
 
-/// Returns `known` if it is not `None`. Otherwise computes the target of the state `state` for
-/// `byte`, adds it to `states` if it is new, and returns it.
+/// Returns the target in `known` if there is one. Otherwise computes the target of the state
+/// `state` for `byte`, adds the target to `states` if it is new, and returns the target.
 ///
 /// # Errors
 ///
@@ -233,8 +233,9 @@ fn target_by(steps: StateSteps<'_>, states: &mut IndexSet<Key>, byte: u8) -> Res
     Ok(target as u32)
 }
 
-/// Returns `known` if it is not `None`. Otherwise computes the target of a state for `byte` from
-/// the steps of the state's live trees, adds it to `states` if it is new, and returns it.
+/// Returns the target in `known` if there is one. Otherwise computes the target of a state for
+/// `byte` from the steps of the state's live trees, adds the target to `states` if it is new, and
+/// returns the target.
 ///
 /// # Errors
 ///

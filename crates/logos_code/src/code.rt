@@ -67,7 +67,7 @@ pub struct CodeState {
     pub at_end: Option<usize>,
 }
 
-/// The use of the matches of a leaf: their kind and their callback.
+/// The use of a leaf's matches: their kind and their callback.
 #[derive(Drop)]
 pub struct CodeLeaf<'s> {
     pub kind: VariantKind<'s>,
@@ -133,7 +133,7 @@ pub struct CodeParts<'s> {
     /// The jump tables. The entry for a byte is the number of the state to which the byte leads, or
     /// `NOWHERE`.
     pub jump_tables: Vec<[u32; 256]>,
-    /// The use of the matches of each leaf, in the order of the numbers of the leaves.
+    /// The use of each leaf's matches, in the order of the numbers of the leaves.
     pub leaves: Vec<CodeLeaf<'s>>,
     /// The number of the state in which each match attempt begins.
     pub root: usize,
@@ -160,7 +160,7 @@ pub struct Code<'s> {
     /// For each state, the last mark that an attempt has passed if it ends in the state. The list
     /// is empty if the last marks are unknown.
     last_marks: Vec<LastMark>,
-    /// The use of the matches of each leaf, in the order of the numbers of the leaves.
+    /// The use of each leaf's matches, in the order of the numbers of the leaves.
     uses: Vec<LeafUse>,
 }
 
@@ -219,7 +219,7 @@ impl<'s> Code<'s> {
         self.parts.header.error_callback.as_ref()
     }
 
-    /// Returns the use of the matches of each leaf, in the order of the numbers of the leaves.
+    /// Returns the use of each leaf's matches, in the order of the numbers of the leaves.
     pub fn leaves(&self) -> &[CodeLeaf<'s>]
         ensures { result.now ≡ self.now.code_leaves }
     {

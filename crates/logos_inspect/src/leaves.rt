@@ -27,7 +27,7 @@ pub struct LeafRow<'l> {
     pub is_default: bool,
     /// The callback as written in the source, if there is one.
     pub callback: Option<&'l str>,
-    /// The line of the file on which the literal begins, counted from 1.
+    /// The number of the line on which the literal begins in the file, counted from 1.
     pub line: usize,
 }
 
@@ -125,8 +125,7 @@ fn text_at(text: &str, span: Span) -> &str
     }
 }
 
-/// Returns the number of the line that contains the byte `offset + from` of the file, counted from
-/// 1.
+/// Returns the line number, counted from 1, of the byte `offset + from` of the file.
 fn line_at(lines: &LineIndex<'_>, offset: usize, from: usize) -> usize
     ensures { result ≡ (location_at lines.now (moved offset from)).line }
 {

@@ -12,7 +12,7 @@ pub use logos_type::TypeExpr;
 use std::alloc::AllocError;
 use std::fmt;
 
-/// The use of the matches of a leaf: the variant that the lexer returns for a match, or a skip.
+/// The use of a leaf's matches: the variant that the lexer returns for a match, or a skip.
 #[derive(Drop)]
 pub enum VariantKind<'s> {
     /// A variant without a field. The identifier is the name of the variant.
@@ -116,12 +116,12 @@ impl Clone for InlineCallback<'_> {
     }
 }
 
-/// The options of a leaf's definition, besides its priority and its callback.
+/// The options of a leaf's definition other than its priority and its callback.
 #[derive(Clone, Copy, Debug, PartialEq, Eq)]
 pub struct LeafOptions {
-    /// Whether letters match in either case: `ignore(case)`.
+    /// Whether letters match in either case, as set by `ignore(case)`.
     pub ignores_case: bool,
-    /// Whether a greedy repetition of a dot is allowed: `allow_greedy = true`.
+    /// Whether a greedy repetition of a dot is allowed, as set by `allow_greedy = true`.
     pub allows_greedy: bool,
 }
 

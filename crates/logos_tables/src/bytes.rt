@@ -59,7 +59,7 @@ fn push_entry(text: &mut String, size: usize, number: usize) -> Result<(), Memor
     Ok(())
 }
 
-/// Appends `byte` in the form in which a byte string denotes it.
+/// Appends `byte` as it is written in a byte string.
 fn push_byte(text: &mut String, byte: u8) -> Result<(), Memory>
     ensures { OnOk result (string_bytes text.new ≡ string_bytes text.old ++ byte_text byte) }
 {

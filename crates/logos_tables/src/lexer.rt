@@ -76,7 +76,7 @@ fn push_steps(alloc: Global, text: &mut String, made: &PrintedTables) -> Result<
     Ok(())
 }
 
-/// Appends the table of marks, with the mark of each state.
+/// Appends the table of the marks of all states.
 fn push_marks(alloc: Global, text: &mut String, code: &Code<'_>) -> Result<(), Memory>
     ensures { OnOk result (Appends (marks_text code.now ∷ []) (string_bytes text.old)
         (string_bytes text.new)) }
@@ -85,7 +85,8 @@ fn push_marks(alloc: Global, text: &mut String, code: &Code<'_>) -> Result<(), M
     push_field(text, "marks", &marks)
 }
 
-/// Appends the table that marks each leaf whose matches are skipped without a callback.
+/// Appends the table with a number for each leaf: 1 if its matches are skipped without a callback,
+/// and 0 otherwise.
 fn push_skips(alloc: Global, text: &mut String, code: &Code<'_>) -> Result<(), Memory>
     ensures { OnOk result (Appends (skips_text code.now ∷ []) (string_bytes text.old)
         (string_bytes text.new)) }

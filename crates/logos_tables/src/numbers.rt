@@ -19,8 +19,8 @@ const MOST_LEAVES: usize = 1023;
 /// The total number of entries of folded tables before and after their rows.
 const BESIDE: usize = 1024;
 
-/// Returns the number of columns of a row. A row has a column for each byte if there are few
-/// states. Otherwise the row has a column for each class, and `more` additional columns.
+/// Returns the number of columns of a row. A row has a column for each byte if there are at most
+/// `FEW` states. Otherwise the row has a column for each class, and `more` additional columns.
 fn columns(tables: &PrintedTables, more: usize) -> usize {
     if tables.rows.slots.len() <= FEW {
         BYTES

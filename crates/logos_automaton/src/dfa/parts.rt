@@ -21,7 +21,7 @@ pub fn leaves_at(dfa: &Dfa, state: usize) -> &[usize]
     &dfa.states[state].matches
 }
 
-/// Returns the targets of a state for each byte.
+/// Returns the targets of a state for all bytes.
 pub fn row_at(dfa: &Dfa, state: usize) -> &Row
     requires { state < length (dfa_of dfa.now).matches }
     ensures { slice_get (dfa_of dfa.now).by_byte state ≡ Some result.now }

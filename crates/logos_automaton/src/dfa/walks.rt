@@ -35,7 +35,7 @@ pub struct DfaStates {
 }
 
 impl StateId {
-    /// Returns the number of the state, which is 0 for the start.
+    /// Returns the number of the state. The number of the start is 0.
     pub fn index(self) -> usize
         ensures { result ≡ self.0 }
     {
@@ -47,7 +47,7 @@ impl Dfa {
     ghost use Rattle.std.specs.Prelude.{◌≡◌, ◌<◌, ◌↔◌, ℕ, IsTrue, Some, Contains, length, slice_get};
     ghost use Rattle.logos_automaton.specs.Views.{All, range_with_len, dfa_next, IsReachable, dfa_of, matches_left, children_left, states_left};
 
-    /// Returns the state before the first byte.
+    /// Returns the start, which is the state before the first byte.
     pub fn start(&self) -> StateId
         ensures start { result.0 ≡ (dfa_of self.now).start }
         ensures within { result.0 < length (dfa_of self.now).matches }

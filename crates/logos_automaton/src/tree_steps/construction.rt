@@ -86,8 +86,8 @@ fn step_by(trees: &Trees<'_>, state: &TreeState, byte: u8) -> Result<TreeStep, A
     )
 }
 
-/// Returns `known` if it is not `None`. Otherwise computes the step for `byte`, appends it to
-/// `found` if it is new, and returns its index in `found`.
+/// Returns the index in `known` if there is one. Otherwise computes the step for `byte`, appends
+/// the step to `found` if it is new, and returns its index in `found`.
 ///
 /// # Errors
 ///

@@ -38,8 +38,8 @@ impl CodeParts<'_> {
         }
     }
 
-    /// Returns the end of a run that begins at `byte`, at most `end`. Either all bytes of the run
-    /// lead to the same state, or all lead nowhere.
+    /// Returns the end of a run that begins at `byte` and ends no later than `end`. Either all
+    /// bytes of the run lead to the same state, or all lead nowhere.
     fn fork_end(&self, fork: &Fork, byte: usize, end: usize) -> usize
         requires there { NamesFork (code_of self.now)
             (fork_of self.now.jump_tables.items fork.now) }
@@ -54,8 +54,8 @@ impl CodeParts<'_> {
         }
     }
 
-    /// Returns the end of a run that begins at `byte`, at most `end`. The same conditions hold for
-    /// all bytes of the run.
+    /// Returns the end of a run that begins at `byte` and ends no later than `end`. The same
+    /// conditions hold for all bytes of the run.
     fn branches_end(&self, branches: &[(Condition, usize)], byte: usize, end: usize) -> usize
         requires there { NamesFork (code_of self.now) (by_conditions (map branch_of branches.now)) }
         requires byte { byte < end }
@@ -70,8 +70,8 @@ impl CodeParts<'_> {
         until
     }
 
-    /// Returns the end of a run that begins at `byte`, at most `end`. The condition holds either
-    /// for all bytes of the run or for none.
+    /// Returns the end of a run that begins at `byte` and ends no later than `end`. The condition
+    /// holds either for all bytes of the run or for none.
     fn condition_end(&self, condition: &Condition, byte: usize, end: usize) -> usize
         requires there { NamesCondition (code_of self.now) (condition_of condition.now) }
         requires byte { byte < end }
@@ -85,8 +85,8 @@ impl CodeParts<'_> {
         }
     }
 
-    /// Returns the end of a run that begins at `byte`, at most `end`. Either all bytes of the run
-    /// pass the test `k`, or none does.
+    /// Returns the end of a run that begins at `byte` and ends no later than `end`. Either all
+    /// bytes of the run pass the test `k`, or none does.
     fn test_end(&self, k: usize, byte: usize, end: usize) -> usize
         requires there { NamesTest (code_of self.now) k }
         requires byte { byte < end }
@@ -103,8 +103,8 @@ impl CodeParts<'_> {
     }
 }
 
-/// Returns the end of a run that begins at `byte`, at most `end`. All bytes of the run have the
-/// same entry in the jump table.
+/// Returns the end of a run that begins at `byte` and ends no later than `end`. All bytes of the
+/// run have the same entry in the jump table.
 fn table_end(table: &[u32; 256], byte: usize, end: usize) -> usize
     requires byte { byte < end }
     requires end { end ≤ 256 }
@@ -119,8 +119,8 @@ fn table_end(table: &[u32; 256], byte: usize, end: usize) -> usize
     end
 }
 
-/// Returns the end of a run that begins at `byte`, at most `end`. The same comparisons hold for all
-/// bytes of the run.
+/// Returns the end of a run that begins at `byte` and ends no later than `end`. The same
+/// comparisons hold for all bytes of the run.
 fn comparisons_end(comparisons: &[Comparisons], byte: usize, end: usize) -> usize
     requires { byte < end }
     ensures { EndsRun (some_compares (map comparison_of comparisons.now)) byte end result }
@@ -132,8 +132,8 @@ fn comparisons_end(comparisons: &[Comparisons], byte: usize, end: usize) -> usiz
     until
 }
 
-/// Returns the end of a run that begins at `byte`, at most `end`. The comparison holds either for
-/// all bytes of the run or for none.
+/// Returns the end of a run that begins at `byte` and ends no later than `end`. The comparison
+/// holds either for all bytes of the run or for none.
 fn comparison_end(comparison: &Comparisons, byte: usize, end: usize) -> usize
     requires { byte < end }
     ensures { EndsRun (compares (comparison_of comparison.now)) byte end result }
@@ -145,8 +145,8 @@ fn comparison_end(comparison: &Comparisons, byte: usize, end: usize) -> usize
     exceptions_end(&comparison.except, byte, until)
 }
 
-/// Returns the end of a run that begins at `byte`, at most `end`. Either all bytes of the run are
-/// in `except`, or none is.
+/// Returns the end of a run that begins at `byte` and ends no later than `end`. Either all bytes of
+/// the run are in `except`, or none is.
 fn exceptions_end(except: &[u8], byte: usize, end: usize) -> usize
     requires { byte < end }
     ensures { EndsRun (is_among except.now) byte end result }

@@ -82,7 +82,7 @@ pub const STUCK: u32 = 8 * NAMED;
 /// The entry of a byte whose step no other entry describes.
 pub const UNDESCRIBED: u32 = 9 * NAMED;
 
-/// The use of the matches of a leaf, to the extent that entries describe it.
+/// The use of a leaf's matches, to the extent that entries describe it.
 #[derive(Clone, Copy)]
 pub enum MatchUse {
     /// The matches become tokens, without a callback.
@@ -110,7 +110,7 @@ pub enum Step {
     Closes(LeafId, MatchUse),
     /// The byte leads nowhere, and the state has no early mark.
     Stuck,
-    /// The step cannot be described by an entry.
+    /// No entry can describe the step.
     Undescribed,
 }
 
@@ -378,7 +378,7 @@ impl CodeParts<'_> {
     }
 }
 
-/// Returns the use of the matches of a leaf without a callback.
+/// Returns the use of the matches of `leaf`, which must not have a callback.
 fn plain_use(leaf: &CodeLeaf) -> MatchUse
     requires { leaf.now.callback ≡ None }
     ensures { IsPlainUse (use_of leaf.now) result }

@@ -1,4 +1,4 @@
-//! Computes the marks of states as signs. A lexer reads a sign with one load. Called by
+//! Computes signs: the marks of states in a form that a lexer reads with one load. Called by
 //! `construction`. The slow path of an attempt reads the signs.
 
 ghost use Rattle.std.specs.Prelude.{◌≡◌, IfOk, map, option_map};

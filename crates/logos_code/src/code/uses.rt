@@ -1,4 +1,4 @@
-//! Computes the uses of the matches of leaves. A lexer reads a use with one load at the end of a
+//! Computes the uses of the leaves' matches. A lexer reads a use with one load at the end of a
 //! match. Called by `construction`.
 
 ghost use Rattle.std.specs.Prelude.{◌≡◌, IfOk, map};
@@ -8,8 +8,8 @@ use super::{CodeLeaf, CodeParts};
 use logos_pattern::leaf::VariantKind;
 use std::alloc::{AllocError, Global};
 
-/// The use of the matches of a leaf, in two bytes. A lexer reads these bytes instead of a
-/// `CodeLeaf`, which is far larger.
+/// The use of a leaf's matches, in two bytes. A lexer reads these bytes instead of a `CodeLeaf`,
+/// which is far larger.
 #[derive(Clone, Copy)]
 pub(crate) struct LeafUse {
     /// Whether the matches are skipped.
@@ -33,7 +33,7 @@ pub(super) fn uses_of(alloc: Global, parts: &CodeParts) -> Result<Vec<LeafUse>, 
     Ok(uses)
 }
 
-/// Returns the use of the matches of a leaf.
+/// Returns the use of a leaf's matches.
 fn leaf_use(leaf: &CodeLeaf) -> LeafUse
     ensures { use_by result ≡ use_of leaf.now }
 {

@@ -153,8 +153,8 @@ fn origin_in(
     })
 }
 
-/// Returns the origin of the byte at the offset `at` of a pattern's text. This text is the text
-/// that `literal` spells, with all subpatterns substituted.
+/// Returns the origin of the byte at the offset `at` of the text that `literal` spells. All
+/// subpatterns are substituted in this text.
 fn put_in_origin(
     alloc: Global,
     literal: &Literal<'_>,
@@ -166,9 +166,8 @@ fn put_in_origin(
     origin_in(alloc, subpatterns, &characters, at)
 }
 
-/// Returns the origin of the byte at the offset `at` of a pattern's text. This text is the text
-/// that `literal` spells, in a group that sets the pattern's flags and with all subpatterns
-/// substituted.
+/// Returns the origin of the byte at the offset `at` of the text that `literal` spells. The text is
+/// in a group that sets the pattern's flags, and all subpatterns are substituted in it.
 fn grouped_origin(
     alloc: Global,
     literal: &Literal<'_>,
