@@ -18,8 +18,8 @@ struct Known<'l> {
     callbacks: IndexSet<(&'l str, &'l str)>,
 }
 
-/// Appends a note that names each common variant of two lexers whose callbacks are written
-/// differently. Skips count as one variant, `skip`. Appends nothing if there is no such variant.
+/// Appends a note that names each variant that occurs in two lexers with differently written
+/// callbacks. Skips count as one variant, `skip`. Appends nothing if there is no such variant.
 ///
 /// # Errors
 ///

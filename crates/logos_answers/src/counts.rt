@@ -133,7 +133,7 @@ fn push_sum(page: &mut Page, leaves: &[CodeLeaf<'_>], number: usize, sum: usize)
     0
 }
 
-/// Returns whether the leaf at the index `number` and the next leaf are of one variant.
+/// Returns whether the leaf at the index `number` and the next leaf share a variant.
 fn next_shares_variant(leaves: &[CodeLeaf<'_>], number: usize) -> bool
     requires { number < length leaves.now }
     ensures { result ≡ next_shares_variant leaves.now number }

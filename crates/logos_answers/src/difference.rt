@@ -31,7 +31,7 @@ pub struct NamedLexer<'m, 's> {
 pub struct Finding<'f> {
     /// The number of the match's leaf, or `None` if there is no match.
     pub leaf: Option<usize>,
-    /// The name of the match's variant, or `None` for a skip or if there is no match.
+    /// The name of the match's variant, or `None` if the match is a skip or there is no match.
     pub variant: Option<&'f str>,
     /// The bytes of the match or the error, or no bytes if the lexer finds neither.
     pub bytes: &'f [u8],

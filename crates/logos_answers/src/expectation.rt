@@ -54,7 +54,7 @@ fn line_start(text: &[u8], at: usize) -> usize
     start
 }
 
-/// Returns the bytes before the offset `at`, or all bytes if the text is shorter.
+/// Returns the bytes before the offset `at`, or all bytes if the text has fewer than `at` bytes.
 fn front_of(text: &[u8], at: usize) -> &[u8]
     ensures { result.now ≡ take at text.now }
 {
@@ -64,7 +64,7 @@ fn front_of(text: &[u8], at: usize) -> &[u8]
     }
 }
 
-/// Returns the bytes from the offset `at` to the end, or no bytes if the text is shorter.
+/// Returns the bytes from the offset `at` on, or no bytes if the text has fewer than `at` bytes.
 fn tail_of(text: &[u8], at: usize) -> &[u8]
     ensures { result.now ≡ drop at text.now }
 {
@@ -98,8 +98,8 @@ fn common_length(one: &[u8], other: &[u8]) -> usize
     at
 }
 
-/// Returns the bytes of the line that begins at the offset `start`, without its LF, or no bytes if
-/// the text is shorter.
+/// Returns the line that begins at the offset `start`, without its LF, or no bytes if the text has
+/// fewer than `start` bytes.
 fn line_from(text: &[u8], start: usize) -> &[u8] {
     let tail = tail_of(text, start);
     match tail.iter().position(|byte| *byte == b'\n') {

@@ -23,7 +23,7 @@ struct MatchStart<'a, 's> {
 
 /// Appends a line for each leaf with a match that begins at the byte offset `from` of an input: the
 /// leaf, its priority, and its longest match from this offset. Then appends a line with the leaf
-/// whose match a lexer selects, and the reason, or a line that states that no leaf matches.
+/// whose match a lexer selects, and the reason, or a line stating that no leaf matches.
 ///
 /// # Errors
 ///
@@ -199,8 +199,8 @@ pub fn bytes_between(input: &[u8], from: usize, to: usize) -> &[u8]
     }
 }
 
-/// Appends the line with the leaf whose match a lexer selects, and the reason, or a line that
-/// states that no leaf matches.
+/// Appends the line with the leaf whose match a lexer selects, and the reason, or a line stating
+/// that no leaf matches.
 fn push_verdict(page: &mut Page, leaves: &[Leaf<'_>], matches: &[Match])
     ensures { (text : List ℕ) × shown.IsVerdict leaves.now matches.now text
         × Gains text page.old page.new }

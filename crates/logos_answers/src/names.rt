@@ -7,7 +7,7 @@ ghost use Rattle.logos_answers.specs.Imports.{Gains, leaf_name, leaf_text, name_
 use logos_page::Page;
 use logos_pattern::leaf::{Leaf, VariantKind};
 
-/// Returns the name of the variant in the kind of a leaf, or `None` for a skip.
+/// Returns the variant name of a leaf of the kind `kind`, or `None` for a skip.
 pub fn variant_of<'l>(kind: &'l VariantKind<'_>) -> Option<&'l str>
     ensures { option_map (λ name. name.now) result ≡ variant_name kind.now }
 {

@@ -242,8 +242,7 @@ pub(crate) fn is_hidden(number: u32) -> bool
         | (is_hidden_filler(number) | (is_hidden_mark(number) | is_hidden_special(number)))
 }
 
-/// Returns whether a character is a control character, or one of the invisible characters up to
-/// U+061C.
+/// Returns whether a character is a control character, or an invisible character up to U+061C.
 fn is_hidden_low(number: u32) -> bool
     ensures { result ≡ shown.is_hidden_low number }
 {

@@ -70,7 +70,7 @@ fn callback_cell<'l>(row: LeafRow<'l>) -> &'l str {
     }
 }
 
-/// Returns the text before the first LF, or the whole text if it has none.
+/// Returns the text before the first LF, or the whole text if there is no LF.
 fn first_line(text: &str) -> &str {
     match text.split_once('\n') {
         Some((line, _)) => line,
@@ -92,7 +92,7 @@ fn widths_of(rows: &[LeafRow<'_>]) -> Widths {
     widths
 }
 
-/// Returns `widths`, with each width increased if `row` needs more.
+/// Returns `widths`, with each width increased if needed to fit `row`.
 fn widened(widths: Widths, row: LeafRow<'_>) -> Widths {
     Widths {
         variant: max(widths.variant, width_of(variant_cell(row))),

@@ -18,7 +18,7 @@ pub(crate) struct Drawn {
 }
 
 impl Drawn {
-    /// Adds a state by its number, unless it was added before or does not exist.
+    /// Adds the state with the number `state`, unless it was added before or does not exist.
     ///
     /// # Errors
     ///
@@ -110,8 +110,8 @@ struct EdgesFrom<'a> {
     data: &'a StateData,
 }
 
-/// Adds the numbers of characters of the folded edges in `edges` to the counts in `wide` of the
-/// states to which these characters lead.
+/// Adds to `wide`, for each target state, the number of characters of the folded edges in `edges`
+/// that lead to the target.
 fn count_wide(states: &[&StateData], edges: &[(ByteClass, State)], wide: &mut Vec<usize>) {
     for edge in edges {
         if is_folded(states, edge) {

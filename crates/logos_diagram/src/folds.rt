@@ -131,8 +131,8 @@ fn continues_thrice(states: &[&StateData], state: usize, least: u8, most: u8) ->
         .all(|edge| continues_twice(states, edge.1.index(), 0x80, 0xBF))
 }
 
-/// Adds the numbers of characters of a folded edge to the counts of the states to which these
-/// characters lead.
+/// Adds to `counts`, for each target state, the number of characters of a folded edge that lead to
+/// the target.
 pub(crate) fn add_folded(
     states: &[&StateData],
     edge: &(ByteClass, State),
@@ -143,9 +143,9 @@ pub(crate) fn add_folded(
     }
 }
 
-/// Adds the numbers of characters of a folded edge to the counts of the states to which these
-/// characters lead. The characters begin with a byte in `range`, and the state with the number
-/// `state` reads their other bytes.
+/// Adds to `counts`, for each target state, the number of characters that lead to the target. The
+/// characters begin with a byte in `range`, and the state with the number `state` reads their other
+/// bytes.
 fn add_range(
     states: &[&StateData],
     state: usize,
@@ -157,9 +157,9 @@ fn add_range(
     }
 }
 
-/// Adds the numbers of characters of a folded edge to the counts of the states to which these
-/// characters lead. The characters begin with the byte `first`, and the state with the number
-/// `state` reads their other bytes.
+/// Adds to `counts`, for each target state, the number of characters that lead to the target. The
+/// characters begin with the byte `first`, and the state with the number `state` reads their other
+/// bytes.
 fn add_from(states: &[&StateData], state: usize, first: u8, counts: &mut Vec<usize>) {
     if first < THREE {
         add_last(states, state, 1, counts);
@@ -203,8 +203,8 @@ fn add_count(counts: &mut Vec<usize>, state: usize, count: usize) {
     }
 }
 
-/// Adds the numbers of pairs of bytes that the state with the number `state` reads, multiplied by
-/// `times`, to the counts of the states to which these pairs lead.
+/// Adds to `counts`, for each target state, the number of pairs of bytes that lead from the state
+/// with the number `state` to the target, multiplied by `times`.
 fn add_twice(states: &[&StateData], state: usize, times: usize, counts: &mut Vec<usize>) {
     if let Some(data) = states.get(state) {
         for edge in &data.normal {
@@ -214,8 +214,8 @@ fn add_twice(states: &[&StateData], state: usize, times: usize, counts: &mut Vec
     }
 }
 
-/// Adds the numbers of triples of bytes that the state with the number `state` reads to the counts
-/// of the states to which these triples lead.
+/// Adds to `counts`, for each target state, the number of triples of bytes that lead from the state
+/// with the number `state` to the target.
 fn add_thrice(states: &[&StateData], state: usize, counts: &mut Vec<usize>) {
     if let Some(data) = states.get(state) {
         for edge in &data.normal {

@@ -190,7 +190,7 @@ fn spans_of(alloc: Global, found: &[FoundEnum]) -> Result<Vec<Span>, AllocError>
     Ok(spans)
 }
 
-/// Appends the report of the first 50 warnings in `warned` to `page`, and the number of further
+/// Appends to `page` the report of the first 50 warnings in `warned`, and the number of further
 /// warnings. The warnings are about the file `source`.
 pub fn push_warned(page: &mut Page, source: &Source<'_>, warned: &[Warning])
     ensures { Shows (warnings_texts page.old.is_colored source.now 0 warned.now) page.old page.new }
@@ -200,7 +200,7 @@ pub fn push_warned(page: &mut Page, source: &Source<'_>, warned: &[Warning])
 
 /// Returns the text of the warnings `warned` about the file `source`, in the format of `showing`.
 /// `is_missing` is `true` if no enum of the file derives `Logos`. A report then has a line about
-/// the missing enum, and JSON does not.
+/// the missing enum, but JSON has no such line.
 ///
 /// # Errors
 ///

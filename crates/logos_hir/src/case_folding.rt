@@ -45,8 +45,8 @@ fn push_values(out: &mut Vec<Range>, table: &[(u32, u32)]) -> Result<(), AllocEr
     Ok(())
 }
 
-/// Appends to `out` the other characters with an equal simple case folding for each character in
-/// `ranges`.
+/// Appends to `out`, for each character in `ranges`, the other characters with an equal simple case
+/// folding.
 fn push_folds(out: &mut Vec<Range>, ranges: &[Range]) -> Result<(), AllocError>
     ensures { OnOk result (Adds (pairs out.old.items) (pairs out.new.items)
         (in_image fold_pairs (in_ranges (pairs ranges.now)))) }

@@ -43,9 +43,9 @@ impl Range {
 /// A set of bytes or of characters. A class matches one member of the set.
 #[derive(Debug, Drop)]
 pub enum Class {
-    /// One byte of these ranges.
+    /// One byte in these ranges.
     Bytes(Vec<Range>),
-    /// The UTF-8 of one character of these ranges.
+    /// The UTF-8 of one character in these ranges.
     Characters(Vec<Range>),
 }
 

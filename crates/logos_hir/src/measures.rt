@@ -7,7 +7,7 @@ ghost use Rattle.logos_hir.specs.Views.{list_all, chars, is_utf8, pointwise, tre
 use crate::hir::{Class, Hir, Range};
 use crate::sets::LAST_CHAR;
 
-/// The number of ASCII characters. Each ASCII character is less than this number.
+/// The first number after the ASCII characters.
 const ASCII: u32 = 128;
 
 /// Returns the number of characters of a text.

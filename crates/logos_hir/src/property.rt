@@ -76,7 +76,7 @@ fn spells(name: &[char], word: &[u8]) -> bool
 }
 
 impl AsciiKind {
-    /// Returns the class that `name` denotes in `[:name:]`, or `None` if no class has this name.
+    /// Returns the class that `name` denotes in `[:name:]`, or `None` if there is no such class.
     pub fn from_name(name: &[char]) -> Option<AsciiKind>
         ensures { result ≡ ascii_named name.now }
     {

@@ -123,8 +123,8 @@ fn write_misuse_line<E: Write>(what: &str, word: &str, err: &mut E) -> io::Resul
     writeln!(err, "`")
 }
 
-/// Writes the message for the unknown option `word`, a hint to the option `nearest` unless
-/// `nearest` is empty, and the usage.
+/// Writes the message for the unknown option `word`, a line that suggests the option `nearest`
+/// unless `nearest` is empty, and the usage.
 fn write_unknown<E: Write>(word: &str, nearest: &str, usage: &str, err: &mut E) -> io::Result<()>
     ensures { OnOk result (Appends (E.contents err.old) (E.contents err.new)
         (misuse_line (codes "unknown option") word.now ++ (hint_line nearest.now ++ usage.now))) }
@@ -134,7 +134,7 @@ fn write_unknown<E: Write>(word: &str, nearest: &str, usage: &str, err: &mut E) 
     err.write_all(usage.as_bytes())
 }
 
-/// Writes the line with the hint to the option `nearest`, or nothing if `nearest` is empty.
+/// Writes the line that suggests the option `nearest`, or nothing if `nearest` is empty.
 fn write_hint<E: Write>(nearest: &str, err: &mut E) -> io::Result<()>
     ensures { OnOk result (Appends (E.contents err.old) (E.contents err.new)
         (hint_line nearest.now)) }

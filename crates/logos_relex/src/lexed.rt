@@ -187,9 +187,9 @@ impl Lexed {
         Ok(())
     }
 
-    /// Replaces the former chunks from the index `from` on with the new chunks in `made`, up to the
-    /// former chunk or the last items that follow the new chunks. The edited input has `length`
-    /// bytes.
+    /// Replaces the former chunks from the index `from` on with the chunks in `made`, up to the
+    /// former chunk that follows them. If no former chunk follows them, also replaces the last
+    /// items. The edited input has `length` bytes.
     ///
     /// # Errors
     ///

@@ -38,8 +38,8 @@ pub enum TokenSpot {
     Within,
 }
 
-/// Returns whether `tokens` begin with an attribute or an entry that is removed from a run of
-/// `scope`. The first token must be at the spot `Open`.
+/// Returns whether `tokens`, at the spot `Open` in a run of `scope`, begin with an attribute or an
+/// entry that is removed.
 fn begins_gone(scope: Scope, tokens: Tokens<'_, '_>) -> bool
     ensures { result ≡ begins_gone scope (tokens_of tokens.entry) }
 {

@@ -33,17 +33,17 @@ fn strip_tokens<'s>(alloc: Global, stream: &TokenStream<'s>) -> Result<TokenStre
 /// macro.
 ///
 /// The helper attributes `logos`, `token` and `regex` are removed from the enum, its variants and
-/// its fields, whatever their arguments. From each `derive` of the enum the entries `Logos`,
+/// its fields, whatever their arguments. From each `derive` of the enum, the entries `Logos`,
 /// `logos::Logos` and `::logos::Logos` are removed, each with the comma after it. Punctuation
-/// directly before a removed part becomes alone. All other tokens are unchanged, with their spans
-/// in the source.
+/// directly before a removed part gets the spacing `Alone`. All other tokens are unchanged, with
+/// their spans in the source.
 ///
 /// # Errors
 ///
 /// Returns `Errors` with the one fault that ends the reading: `LimitSource` if the source is longer
-/// than 16 MiB; `Lexical` if it cannot be split into tokens; `LimitTokenNesting` if its groups are
-/// nested too deeply; `NotAnEnum`, `Grammar`, `TypeUnsupported` or `LimitTypeNesting` if its tokens
-/// are not an enum. Returns `Memory` if memory runs out.
+/// than 16 MiB; `Lexical` if the source cannot be split into tokens; `LimitTokenNesting` if its
+/// groups are nested too deeply; `NotAnEnum`, `Grammar`, `TypeUnsupported` or `LimitTypeNesting` if
+/// its tokens are not an enum. Returns `Memory` if memory runs out.
 pub fn strip_attributes<'s>(alloc: Global, src: &'s str) -> Result<TokenStream<'s>, Refusal>
     ensures ok { IfOk result (λ left. IsStripped src.now (stream_tokens left)) }
     ensures err { IfErr result (Refuses (λ faults. (ending : Fault) × EndsReading src.now ending

@@ -13,8 +13,8 @@ use std::alloc::Global;
 pub(crate) struct Writer<'s> {
     /// All written trees except `held`.
     stream: TokenStream<'s>,
-    /// The last tree, if it is punctuation. The punctuation becomes alone if the token directly
-    /// after it is removed.
+    /// The last tree, if it is punctuation. The punctuation gets the spacing `Alone` if the token
+    /// directly after it is removed.
     held: Option<Punct>,
 }
 
@@ -57,7 +57,8 @@ impl<'s> Writer<'s> {
         }
     }
 
-    /// Skips the next tree, which is removed. Punctuation directly before the tree becomes alone.
+    /// Skips the next tree, which is removed. Punctuation directly before the tree gets the spacing
+    /// `Alone`.
     pub(crate) fn without_tree(self) -> Result<Writer<'s>, Memory>
         ensures { IfOk result (λ writer. (pieces : List (Option Token)) →
             completed writer pieces ≡ completed self.entry (None ∷ pieces)) }

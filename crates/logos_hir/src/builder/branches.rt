@@ -155,8 +155,8 @@ fn chars_or(alloc: Global, branches: Vec<Hir>) -> Result<Hir, AllocError>
 }
 
 /// Returns an alternation of branches that are not alternations themselves. Returns a single branch
-/// unchanged, a class if all branches fit it, and the class without characters if `branches` is
-/// empty.
+/// unchanged, a class if all branches fit one class, and the class without characters if `branches`
+/// is empty.
 pub(crate) fn choice(mut branches: Vec<Hir>) -> Result<Hir, AllocError>
     ensures { IfOk result (λ hir. tree_of hir ≡ choice_of (map tree_of branches.items)) }
 {
@@ -284,9 +284,9 @@ pub(crate) fn push_fitting(branches: &mut Vec<Hir>, branch: Hir) -> Result<Fits,
     Ok(fits)
 }
 
-/// Replaces the branches from the index `from` on with one class if their number is not 1 and
-/// `fits`, the classes that they fit, contains a class. Returns the classes that the branches from
-/// `from` on fit afterwards.
+/// Replaces the branches from the index `from` on with one class if there is not exactly one such
+/// branch and `fits` contains a class. `fits` are the classes that these branches fit. Returns the
+/// classes that the branches from `from` on fit afterwards.
 pub(crate) fn join_class(
     alloc: Global,
     branches: &mut Vec<Hir>,

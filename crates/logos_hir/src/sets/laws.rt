@@ -5,7 +5,7 @@ ghost use Rattle.logos_hir.specs.Views.{AreCanonical, in_range, intersection, me
 
 use super::{LAST_BYTE, RangeSet};
 
-/// Sets with the same members have the same ranges.
+/// Sets with equal members have equal ranges.
 pub fn same_members(a: &RangeSet, b: &RangeSet)
     ensures { set_of a.now ≡ set_of b.now → pairs a.now.ranges.items ≡ pairs b.now.ranges.items }
 {}

@@ -138,7 +138,7 @@ fn push_effect(effects: &mut Vec<Effect>, count: usize, effect: Effect) -> Resul
     }
 }
 
-/// The operands of a bracket so far. They are combined as they arrive, so that each range is
+/// The operands of a bracket so far. Operands are combined on arrival, so that each range is
 /// processed a logarithmic number of times, and only a logarithmic number of effects is stored.
 #[derive(Drop)]
 pub struct OperandRuns {

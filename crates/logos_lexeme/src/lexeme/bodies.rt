@@ -323,7 +323,7 @@ fn is_body(source: &str, escapes: bool, content: Content, from: usize, to: usize
 }
 
 /// Returns the byte offset after the escape at the byte offset `at`, or after the byte at `at` if
-/// the byte represents itself. Returns `None` if there is neither.
+/// the byte represents itself. Returns `None` if there is neither an escape nor such a byte.
 fn character_piece_end(source: &str, content: Content, at: usize) -> Option<usize>
     requires { at ≤ length source.now }
     ensures { MatchOption result

@@ -44,9 +44,9 @@ fn has_base(source: &str, from: usize) -> bool
     (byte_at(source, from) == b'0') & ((letter == b'x') | (letter == b'o') | (letter == b'b'))
 }
 
-/// Returns the byte offset after the character of a number at `at`. The character continues an
-/// identifier, or is a decimal point or the sign of an exponent. Returns `None` if the number ends
-/// at `at`. `based` is `true` if the number has a base prefix.
+/// Returns the byte offset after the character at `at` if the character continues a number: a
+/// character that continues an identifier, a decimal point, or the sign of an exponent. Returns
+/// `None` if the number ends at `at`. `based` is `true` if the number has a base prefix.
 fn number_step(source: &str, based: bool, at: usize) -> Option<usize>
     requires inside { at < length source.now }
     requires boundary { IsCharBoundary source.now at }
