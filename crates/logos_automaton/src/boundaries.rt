@@ -51,8 +51,8 @@ fn mark_row(table: &CharacterTable, row: usize, marked: &mut [bool; 256])
     }
 }
 
-/// Marks each byte whose transition from at least one row of a class of characters in `marks`
-/// differs from that of the next smaller byte. The positions of the class begin at `base`.
+/// Marks each byte whose transition from at least one of the rows in `marks` differs from that of
+/// the next smaller byte. The rows belong to a class of characters whose positions begin at `base`.
 fn mark_rows(table: &CharacterTable, marks: &[usize], base: usize, marked: &mut [bool; 256])
     requires rising { IsRising marks.now }
     requires fits { base + table.now.rows < 2 ^ 64 }

@@ -1,5 +1,5 @@
-//! Stores the steps of trees, computed once for each state of a tree. `row` looks up these steps
-//! while it fills the row of a state.
+//! Caches the steps of trees for each state of a tree. `row` looks up these steps while it fills
+//! the row of a state of the automaton.
 
 ghost use Rattle.std.specs.Prelude.{◌≡◌, ◌∷◌, ◌++◌, ◌+◌, ◌<◌, ◌≤◌, ◌↔◌, List, ℕ, [], false, IfOk, IsTrue, OnOk, length, slice_index, slice_index_or, if◌then◌else◌};
 ghost use Rattle.logos_automaton.specs.Views.{Node, kind_of_byte, Has, IsRising, state_of, Trees, AreKindBytes, IsPrepared, IsCacheOf, AreAlmostCached, AreCached, AreLive, HasSteps, IsTreeState, Keeps, state_after, step_of, tree_view};

@@ -58,8 +58,8 @@ pub const NOWHERE: u32 = u32::MAX;
 /// input, the step to `at_end` replaces the fork. States are identified by their numbers.
 #[derive(Drop)]
 pub struct CodeState {
-    /// The number of the test that a byte passes if it does not change the state, or `None` if the
-    /// state has no fast loop.
+    /// The number of the test of the fast loop, or `None` if the state has no fast loop. A byte
+    /// that passes the test does not change the state.
     pub fast_loop: Option<usize>,
     pub mark: Option<Mark>,
     pub fork: Fork,
@@ -276,8 +276,8 @@ impl Code<'_> {
         self.parts.passes_test(test, byte)
     }
 
-    /// Returns the mask of the test with the number `test`. Bit `b / 16 % 8` of entry
-    /// `16 * (b / 128) + b % 16` is set if byte `b` passes the test.
+    /// Returns the mask of the test with the number `test`. For each byte `b`, bit `b / 16 % 8` of
+    /// entry `16 * (b / 128) + b % 16` is set if `b` passes the test.
     #[inline(always)]
     pub fn mask(&self, test: usize) -> &[u8; 32]
         requires { NamesTest self.now test }

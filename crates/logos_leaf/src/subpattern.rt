@@ -243,8 +243,8 @@ impl<'s> Subpatterns<'s> {
         Ok(Some(mem::replace(&mut self.list[slot], subpattern)))
     }
 
-    /// Stores the subpattern `name` with the text `pattern`. If there already is a subpattern with
-    /// this name, replaces it and reports both names.
+    /// Stores the subpattern `name` with the text `pattern`. If a subpattern with this name already
+    /// exists, replaces it and reports both names.
     fn store(&mut self, name: Ident<'s>, pattern: String, errors: &mut Errors) -> Result<(), Memory>
         ensures { OnOk result (IsReport
             (stored_report (ident_slice name.entry) (string_bytes pattern) (names_of self.old))
@@ -373,9 +373,8 @@ impl<'s> Subpatterns<'s> {
     }
 
     /// Returns `pattern` with each `(?&name)`, from the left, replaced by the text of the
-    /// subpattern `name`. The substituted texts are not searched for names. If there is no
-    /// subpattern with one of the names, reports each use of a missing name at `span` and returns
-    /// `None`.
+    /// subpattern `name`. The substituted texts are not searched for names. If subpatterns are
+    /// missing, reports each use of a missing subpattern at `span` and returns `None`.
     ///
     /// # Errors
     ///

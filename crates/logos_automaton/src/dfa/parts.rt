@@ -1,5 +1,5 @@
-//! Returns the parts of an automaton that belong to a state. The modules that find the faults of
-//! rules, the table of a graph and the evidence call these functions.
+//! Returns the number of states of an automaton, and the parts of each state. Called by `faults`,
+//! `logos_attempts`, `logos_evidence`, `logos_graph` and `logos_html`.
 
 ghost use Rattle.std.specs.Prelude.{◌≡◌, ◌<◌, Some, length, slice_get};
 ghost use Rattle.logos_automaton.specs.DfaView.{dfa_of};

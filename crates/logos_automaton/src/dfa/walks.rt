@@ -1,5 +1,5 @@
-//! Defines the public interface for walking through an automaton from state to state. Users of the
-//! library and the evidence call these functions.
+//! Defines the public interface for walking through an automaton from state to state. Called by
+//! `logos_causes`, `logos_evidence`, `logos_html` and users of the library.
 
 ghost use Rattle.std.specs.Prelude.{◌≤◌, ◌≡◌};
 

@@ -1,5 +1,5 @@
-//! Computes the steps of one tree for each byte. `cache` calls `steps_of` once for each state of a
-//! tree.
+//! Computes the steps of one tree for each byte. `cache` calls `steps_of` for each state of a tree
+//! whose steps are not cached.
 
 ghost use Rattle.std.specs.Prelude.{◌≡◌, ◌+◌, ◌-◌, ◌<◌, ◌≤◌, ℕ, false, IsTrue, IfOk, IfSome, OnOk, length, vec_len, slice_get, slice_index, slice_index_or};
 ghost use Rattle.logos_automaton.specs.Views.{AreChangesOf, AreFirstOf, IsPrepared, tree_view, view_of, viewed, AreStepsFrom, IsTreeState, MakesFrom};

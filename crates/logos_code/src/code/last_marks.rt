@@ -159,8 +159,8 @@ fn either(one: LastMark, other: LastMark) -> LastMark {
     }
 }
 
-/// Returns the last mark in `state` after a byte from another state. `before` is the last mark in
-/// the other state. The result is `Varies` if a fast loop makes the number of bytes unknown.
+/// Returns the last mark in `state` after a byte that leads to `state`. `before` is the last mark
+/// before the byte. The result is `Varies` if a fast loop makes the number of bytes unknown.
 fn entered(state: &CodeState, before: LastMark) -> LastMark {
     match (state.mark, before) {
         (Some(mark), _) => LastMark::Back(mark.leaf, bytes_back(mark)),
@@ -316,9 +316,9 @@ fn target_agrees(parts: &CodeParts, marks: &[LastMark], from: LastMark, to: usiz
     follows(from, next.fast_loop, last_mark_at(marks, to))
 }
 
-/// Returns whether the last mark `to` in a state follows from the last mark `from` in a state that
-/// leads to it on a byte. The state with the last mark `to` has the fast loop `fast_loop` and no
-/// mark of its own.
+/// Returns whether `to` follows from `from` along a byte. `from` is the last mark in the state
+/// before the byte, and `to` is the last mark in the state after the byte. The state after the byte
+/// has the fast loop `fast_loop` and no mark of its own.
 fn follows(from: LastMark, fast_loop: Option<usize>, to: LastMark) -> bool
     ensures { IsTrue result → Follows to from fast_loop }
 {

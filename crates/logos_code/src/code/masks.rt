@@ -23,8 +23,8 @@ pub(super) fn masks_of(alloc: Global, parts: &CodeParts) -> Result<Vec<[u8; 32]>
     Ok(masks)
 }
 
-/// Returns the mask of the test with the number `test`. Bit `b / 16 % 8` of entry `16 * (b / 128) +
-/// b % 16` is set if byte `b` passes the test.
+/// Returns the mask of the test with the number `test`. For each byte `b`, bit `b / 16 % 8` of
+/// entry `16 * (b / 128) + b % 16` is set if `b` passes the test.
 fn mask_of(parts: &CodeParts, test: usize) -> [u8; 32]
     requires { NamesTest (code_of parts.now) test }
     ensures { IsMask (passes_test parts.now.bit_tables.items test) result }
@@ -40,8 +40,8 @@ fn mask_of(parts: &CodeParts, test: usize) -> [u8; 32]
 /// greatest byte.
 const FIRSTS: usize = 144;
 
-/// Returns the entry of a mask whose bit `k`, for `k` from 0 to 7, is set if the byte `first + 16 *
-/// k` passes the test.
+/// Returns an entry of a mask. Bit `k` of the entry is set if the byte `first + 16 * k` passes the
+/// test, for each `k` from 0 to 7.
 fn mask_entry(parts: &CodeParts, test: usize, first: usize) -> u8
     requires test { NamesTest (code_of parts.now) test }
     requires first { first < FIRSTS }

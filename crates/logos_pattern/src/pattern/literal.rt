@@ -53,7 +53,7 @@ fn upper_digit(value: u8) -> char
     char::from(b'A' + (value - 10))
 }
 
-/// Appends a pattern that matches exactly `character` to `text`.
+/// Appends to `text` a pattern that matches exactly `character`.
 fn push_character(text: &mut String, character: char) -> Result<(), AllocError>
     ensures { OnOk result (string_bytes text.new ≡
         string_bytes text.old ++ escaped_character character) }
@@ -64,7 +64,7 @@ fn push_character(text: &mut String, character: char) -> Result<(), AllocError>
     text.push(character)
 }
 
-/// Appends a pattern that matches exactly `value` to `text`.
+/// Appends to `text` a pattern that matches exactly `value`.
 fn push_text(text: &mut String, value: &str) -> Result<(), AllocError>
     ensures { OnOk result (string_bytes text.new ≡
         string_bytes text.old ++ flat_map escaped_character (chars value.now)) }
