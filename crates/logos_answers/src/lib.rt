@@ -1,7 +1,6 @@
 //! Writes answers about lexers as lines of text: the leaves of a lexer, its items, the matches that
-//! begin at an offset, examples for each leaf, inputs that together take all edges of a graph,
-//! whether two lexers are equivalent, and whether an answer equals a stored answer. Called by
-//! `logos_show` and `logos_items`.
+//! begin at an offset, examples for each leaf, inputs that together take all edges of a graph, and
+//! the results of comparing two lexers or two answers. Called by `logos_show` and `logos_items`.
 
 #![tactic(auto)]
 

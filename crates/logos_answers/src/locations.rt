@@ -68,7 +68,7 @@ fn with_digit(number: usize, byte: u8) -> Option<usize>
     positive(number * 10 + (byte - b'0') as usize)
 }
 
-/// Returns a number, or `None` if it is 0.
+/// Returns `number`, or `None` if it is 0.
 fn positive(number: usize) -> Option<usize>
     ensures { result ≡ positive number }
 {

@@ -80,7 +80,7 @@ fn push_all_but(page: &mut Page, class: &ByteClass) {
     }
 }
 
-/// Returns whether a set has only ASCII bytes.
+/// Returns whether a set contains only ASCII bytes.
 fn is_ascii(class: &ByteClass) -> bool {
     class.ranges.iter().all(|range| *range.end() < 128)
 }

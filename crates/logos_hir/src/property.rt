@@ -10,7 +10,7 @@ use std::alloc::{AllocError, Global};
 use unicode::perl;
 use unicode::sets::{self, Set};
 
-/// A class of ASCII characters: one of `[:alnum:]` to `[:xdigit:]`.
+/// A named class of ASCII characters, from `[:alnum:]` to `[:xdigit:]`.
 #[derive(Clone, Copy)]
 pub enum AsciiKind {
     Alnum,
