@@ -1,5 +1,5 @@
-//! Builds the automaton of rules and finds their faults. The states of the automaton record matches
-//! one byte late. `logos_graph` reduces automata to graphs.
+//! Builds the automaton of rules and finds the faults of the rules. The states of the automaton
+//! record matches one byte late. `logos_graph` reduces automata to graphs.
 
 #![tactic(auto)]
 

@@ -1,5 +1,5 @@
-//! Defines the Rust types in an enum's fields and in attributes, and prints, copies and compares
-//! them. `logos_type_reader` makes the types.
+//! Represents the Rust types in an enum's fields and in attributes, and prints, copies and compares
+//! these types. `logos_type_reader` makes the types.
 
 #![tactic(auto)]
 
