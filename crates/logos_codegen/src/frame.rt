@@ -13,7 +13,7 @@ use logos_type::TypeExpr;
 /// The options of a source on which the text around the body of its lexer depends.
 #[derive(Drop)]
 pub(crate) struct AroundOptions<'s> {
-    /// The path of the crate `logos`, or `None` if the source has no option for it.
+    /// The path of the crate `logos`, or `None` if the source does not set the path.
     pub(crate) library: Option<TokenStream<'s>>,
     pub(crate) error_type: Option<ErrorType<'s>>,
     pub(crate) extras: MaybeVoid<'s>,

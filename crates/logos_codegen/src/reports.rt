@@ -133,7 +133,7 @@ fn report_set(leaves: &[Leaf<'_>], set: &[LeafId], errors: &mut Errors) -> Resul
     Ok(())
 }
 
-/// Reports a leaf that can match the empty string.
+/// Reports that a leaf can match the empty string.
 fn report_empty(leaf: &Leaf<'_>, errors: &mut Errors) -> Result<(), Memory>
     ensures { OnOk result (errors.new ≡ errors.old ++ empty_match_faults (named_leaf leaf.now)) }
 {

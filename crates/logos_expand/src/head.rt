@@ -1,5 +1,5 @@
-//! Makes the first line of an expanded file, which names its source. Used by `expansion` and
-//! `logos_cli`.
+//! Makes the first line of an expanded file. The line names the source of the file. Used by
+//! `expansion` and `logos_cli`.
 
 ghost use Rattle.std.specs.Prelude.{◌≡◌, ◌++◌, IfOk, OnOk, string_bytes};
 ghost use Rattle.logos_expand.specs.Views.{code_name, head_of, head_text, headed, is_byte_order_mark, is_plain, is_printable, is_script_mark, line_text, may_follow_line, shape_name, shown_name};

@@ -13,7 +13,7 @@ use logos_tables::{Shape, lexer_text};
 use logos_text::{Call, Sink};
 use std::alloc::Global;
 
-/// The location of an enum in a file, with the shape of its lexer.
+/// The file and the byte offset of an enum, with the shape of the enum's lexer.
 #[derive(Clone, Copy)]
 pub(crate) struct Site<'f, 't> {
     /// The shape of the lexer of the enum.
@@ -29,8 +29,8 @@ pub(crate) struct Site<'f, 't> {
 /// The import of `Logos`, marked as used.
 const IMPORT: &str = "#[allow(unused_imports)]\nuse self::Logos as _;\n";
 
-/// The attributes of an implementation. They disable rustfmt, and the lints of rustc and clippy
-/// that generated code violates.
+/// The attributes of an implementation. The attributes disable rustfmt, and the lints of rustc and
+/// clippy that generated code violates.
 const ATTRIBUTES: &str = "\
 #[allow(dead_code, deprecated, unused_assignments, unused_imports)]
 #[allow(unused_parens, unused_variables)]

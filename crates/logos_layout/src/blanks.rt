@@ -62,7 +62,7 @@ fn is_tight_before(last: LexemeClass, next: LexemeClass) -> bool {
     }
 }
 
-/// Returns whether a `(` or `[` after a lexeme of the class `last` belongs to that lexeme, as in a
+/// Returns whether a `(` or `[` after a lexeme of the class `last` belongs to the lexeme, as in a
 /// call.
 fn is_called(last: LexemeClass) -> bool {
     matches!(

@@ -127,9 +127,8 @@ fn read_inner<'t, 's>(run: Tokens<'t, 's>) -> (usize, Tokens<'t, 's>)
     (end, rest)
 }
 
-/// Returns the end of the inner documentation comment or inner attribute at the beginning of a run,
-/// as a byte offset in the source, and the tokens after it. Returns `None` if the run begins with
-/// neither.
+/// Returns the byte offset in the source at which the first inner documentation comment or inner
+/// attribute of a run ends, and the tokens after it. Returns `None` if the run begins with neither.
 fn inner_at<'t, 's>(tokens: Tokens<'t, 's>) -> Option<(usize, Tokens<'t, 's>)>
     ensures { MatchOption result (after_inner (tokens_of tokens.entry) ≡ None)
         (λ read. (after_inner (tokens_of tokens.entry) ≡ Some (tokens_of read.1))
@@ -142,8 +141,8 @@ fn inner_at<'t, 's>(tokens: Tokens<'t, 's>) -> Option<(usize, Tokens<'t, 's>)>
     }
 }
 
-/// Returns the end of the brackets if a run begins with `!` and brackets, as a byte offset in the
-/// source, and the tokens after the brackets. Returns `None` for any other run.
+/// Returns the byte offset in the source at which the brackets end, and the tokens after the
+/// brackets, if a run begins with `!` and brackets. Returns `None` for any other run.
 fn marked<'t, 's>(tokens: Tokens<'t, 's>) -> Option<(usize, Tokens<'t, 's>)>
     ensures { MatchOption result (after_mark (tokens_of tokens.entry) ≡ None)
         (λ read. (after_mark (tokens_of tokens.entry) ≡ Some (tokens_of read.1))
@@ -155,8 +154,8 @@ fn marked<'t, 's>(tokens: Tokens<'t, 's>) -> Option<(usize, Tokens<'t, 's>)>
     }
 }
 
-/// Returns the end of the brackets if a run begins with brackets, as a byte offset in the source,
-/// and the tokens after the brackets. Returns `None` for any other run.
+/// Returns the byte offset in the source at which the brackets end, and the tokens after the
+/// brackets, if a run begins with brackets. Returns `None` for any other run.
 fn bracketed<'t, 's>(tokens: Tokens<'t, 's>) -> Option<(usize, Tokens<'t, 's>)>
     ensures { MatchOption result (after_brackets (tokens_of tokens.entry) ≡ None)
         (λ read. (after_brackets (tokens_of tokens.entry) ≡ Some (tokens_of read.1))

@@ -9,7 +9,7 @@ use crate::line_breaks::lines_of;
 use logos_token::error::Memory;
 use std::alloc::Global;
 
-/// The position and the content of a comment that names a line of another text.
+/// A comment to insert into a text. The comment names a line of another text.
 #[derive(Clone, Copy)]
 pub struct Note {
     /// The byte offset in the text before which the comment is inserted.

@@ -75,8 +75,8 @@ impl LayoutState {
         }
     }
 
-    /// Returns the separator before the next lexeme, which has the class `next`, or `None` if the
-    /// lexeme continues the current word.
+    /// Returns the separator before the next lexeme, or `None` if the lexeme continues the current
+    /// word. `next` is the class of the lexeme.
     pub(crate) fn lead(self, next: LexemeClass) -> Option<WordLead> {
         if matches!(self.last, LexemeClass::Start) {
             return None;
@@ -94,7 +94,7 @@ impl LayoutState {
         None
     }
 
-    /// Returns whether the next lexeme, which has the class `next`, begins a line.
+    /// Returns whether the next lexeme begins a line. `next` is the class of the lexeme.
     fn is_line_before(self, next: LexemeClass) -> bool {
         if closes_block(self.inner, next) {
             return true;
@@ -234,8 +234,9 @@ fn types_after(next: LexemeClass, types: usize) -> usize {
     }
 }
 
-/// Returns the kind of the content of an opening delimiter after a lexeme of the class `last`. The
-/// bytes `ahead` follow the delimiter, and `room` bytes fit into the line after the delimiter.
+/// Returns the kind of the content that begins after an opening delimiter. `last` is the class of
+/// the lexeme before the delimiter. The bytes `ahead` follow the delimiter, and `room` bytes fit
+/// into the line after the delimiter.
 pub(crate) fn opened(last: LexemeClass, delimiter: Delimiter, ahead: &[u8], room: usize) -> Open {
     match delimiter {
         Delimiter::Brace if is_short(ahead, room) => Open::Short,

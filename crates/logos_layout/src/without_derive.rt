@@ -21,8 +21,8 @@ struct Thinned {
     depth: usize,
 }
 
-/// Returns the text of `source` without the lexemes that are not among the tokens `left`. The
-/// result ends before the first byte of `source` that cannot be read into a lexeme.
+/// Returns the text of `source` after removing all lexemes that do not belong to the tokens `left`.
+/// The result ends before the first byte of `source` that cannot be read into a lexeme.
 ///
 /// A line that contains only removed lexemes is removed with them. Comments remain, except inside
 /// removed delimiters and after the last remaining lexeme.

@@ -10,7 +10,7 @@ use crate::paths::path_by_word;
 use crate::program::Program;
 use logos_host::Failure;
 
-/// The arguments of a command line, as far as they were read.
+/// The arguments that have been read from a command line.
 #[derive(Clone, Copy)]
 pub struct Arguments<'w> {
     /// The first path, if there is one.
@@ -264,7 +264,7 @@ fn read_setting<'w>(
     })
 }
 
-/// Returns the settings with the option `one` and its value.
+/// Returns `settings` with the value of the option `one` added.
 fn settings_with<'w>(settings: Settings<'w>, one: GivenOption<'w>) -> Settings<'w>
     ensures { settings_value result
         ≡ set (settings_value settings.entry) (number one.entry.option) (Some one.entry.value.now) }

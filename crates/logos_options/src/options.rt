@@ -1,6 +1,6 @@
-//! Defines the table of options: the name of each option, whether it has a value, its effect, and
-//! its lines in the help of each program that takes the option. Used by all modules that read
-//! arguments.
+//! Defines the table of options. A row contains the name and the effect of an option, a flag that
+//! is `true` if the option has a value, and the lines in the help of each program that takes the
+//! option. Used by all modules that read arguments.
 
 ghost use Rattle.std.specs.Prelude.{◌≡◌, ◌<◌, Some, is_some, map};
 ghost use Rattle.logos_options.specs.Imports.{is_named, named_in, number, option_named, role_of, row_value, takes_value, word_of};

@@ -39,7 +39,7 @@ pub enum Node {
         first: Box<Node>,
         second: Box<Node>,
     },
-    /// The body, at least `least` times, and at most `most` times if `most` is not `None`.
+    /// The body, repeated at least `least` times, and at most `most` times unless `most` is `None`.
     Repeat {
         least: usize,
         most: Option<usize>,
@@ -117,7 +117,7 @@ impl TreeSpot {
     }
 }
 
-/// Copies of the body of a repetition, one after another.
+/// Consecutive copies of the body of a repetition.
 #[derive(Clone, Copy)]
 pub struct Copies {
     /// The first position of the first copy.

@@ -2,8 +2,8 @@
 //! page.
 //!
 //! A slot is a list of bytes. The page fills [`ARGUMENTS`], [`SOURCE`] and [`INPUT`], calls
-//! [`run`], and reads [`OUTPUT`] and [`MESSAGES`]. The programs are those that Cargo builds: the
-//! source and the input are their only files, and their output is written to the last two slots.
+//! [`run`], and reads [`OUTPUT`] and [`MESSAGES`]. The programs are those that Cargo builds. Their
+//! only files are the source and the input, and their output is written to the last two slots.
 
 #![deny(unsafe_code)]
 #![warn(missing_docs)]

@@ -367,7 +367,7 @@ fn start(alloc: Global) -> Result<IndexSet<CharacterRest>, AllocError>
     Ok(rests)
 }
 
-/// Builds the table that reads the characters of `ranges`.
+/// Builds the table for reading the characters of `ranges`.
 ///
 /// # Errors
 ///

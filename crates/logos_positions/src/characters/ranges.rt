@@ -91,7 +91,7 @@ pub fn clip(
     Ok(out)
 }
 
-/// Appends the range from `first` to `last` to `out`, unless it is empty.
+/// Appends the range from `first` to `last` to `out`, unless the range is empty.
 ///
 /// # Errors
 ///

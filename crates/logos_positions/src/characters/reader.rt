@@ -1,5 +1,5 @@
-//! A table that reads a character of a class, byte by byte. Steps on a class of characters look up
-//! the next row in the table.
+//! A table for reading a character of a class byte by byte. A step on a class of characters looks
+//! up the next row in the table.
 
 ghost use Rattle.std.specs.Prelude.{◌<◌, ◌^◌};
 

@@ -33,7 +33,7 @@ pub(crate) fn exits(node: &Node, marks: &[usize], spot: TreeSpot, at: Context) -
     exits_node(node, marks, spot, at)
 }
 
-/// Returns whether the tree `node` can be left at the point `at` if it is not entered. `own` are
+/// Returns whether the tree `node`, which is not entered, can be left at the point `at`. `own` are
 /// the positions of the tree in the set `marks`; there must be at least one. Branches of
 /// alternations without a position in the set are skipped.
 #[cycle(exits)]

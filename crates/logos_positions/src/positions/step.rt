@@ -132,8 +132,8 @@ fn step_literal(
     Ok(left)
 }
 
-/// Appends the position after `position` to `next` if the appended position belongs to the literal
-/// `text` and reads `byte`. The positions of the literal begin at `base`.
+/// Appends the position `position + 1` to `next` if it belongs to the literal `text` and reads
+/// `byte`. The positions of the literal begin at `base`.
 ///
 /// # Errors
 ///
@@ -161,9 +161,9 @@ fn push_after(
     Ok(())
 }
 
-/// Steps on the literal `text` if it is not entered: appends to `next` the positions of the literal
-/// that read the byte. `own` are the positions of the literal in the set. Returns whether the
-/// literal can be left before the byte.
+/// Steps on the literal `text`, which is not entered: appends to `next` the positions of the
+/// literal that read the byte. `own` are the positions of the literal in the set. Returns whether
+/// the literal can be left before the byte.
 ///
 /// # Errors
 ///
@@ -293,7 +293,7 @@ pub(crate) fn step(
     step_node(node, by, spot, next)
 }
 
-/// Steps like `step` on the tree `node` if it is not entered. `own` are the positions of the tree
+/// Steps like `step` on the tree `node`, which is not entered. `own` are the positions of the tree
 /// in the set; there must be at least one. Branches of alternations without a position in the set
 /// are skipped.
 ///

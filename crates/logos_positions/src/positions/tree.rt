@@ -18,7 +18,7 @@ pub struct TreeStep {
     pub left: bool,
 }
 
-/// Returns the result of a step on the tree `node`, if it is not entered. The positions of the tree
+/// Returns the result of a step on the tree `node`, which is not entered. The positions of the tree
 /// begin at `base`.
 ///
 /// # Errors
