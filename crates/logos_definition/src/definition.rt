@@ -189,7 +189,8 @@ impl<'s> Definition<'s> {
     }
 
     /// Adds an argument after the literal to the definition, and reports the argument's faults.
-    /// `first` is `true` for the first argument, which alone can be a callback without a name.
+    /// `first` is `true` for the first argument. Only the first argument can be a callback without
+    /// a name.
     fn add_argument(
         &mut self,
         first: bool,

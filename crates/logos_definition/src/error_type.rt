@@ -67,8 +67,8 @@ impl<'s> ErrorType<'s> {
     }
 
     /// Returns the text of the type: the text of `type_expr` if the type was read, and otherwise
-    /// the text of the tokens, or `()` if there are none. Lifetimes and parameters are printed as
-    /// in the source.
+    /// the text of the tokens, or `()` if there are no tokens. Lifetimes and parameters are printed
+    /// as in the source.
     ///
     /// # Errors
     ///
@@ -113,7 +113,8 @@ impl<'s> ErrorType<'s> {
     }
 
     /// Adds an argument after the type to the error type, and reports the argument's faults.
-    /// `first` is `true` for the first argument, which alone can be a callback without a name.
+    /// `first` is `true` for the first argument. Only the first argument can be a callback without
+    /// a name.
     fn add_argument(
         &mut self,
         first: bool,

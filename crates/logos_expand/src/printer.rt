@@ -199,9 +199,9 @@ fn notes_of(
     Ok(notes)
 }
 
-/// Returns the text `lexer` with its attributes. The import of `Logos` precedes it if `by_name` is
-/// `true`. The import and `lexer` each have the `cfg` attributes of the enum with the tokens
-/// `left`.
+/// Returns the text `lexer` with its attributes. The import of `Logos` precedes the text if
+/// `by_name` is `true`. The import and `lexer` each have the `cfg` attributes of the enum with the
+/// tokens `left`.
 fn under(alloc: Global, by_name: bool, left: Tokens<'_, '_>, lexer: &str) -> Result<String, Memory>
     ensures { IfOk result (λ text.
         string_bytes text ≡ under by_name (tokens_of left.entry) lexer.now) }

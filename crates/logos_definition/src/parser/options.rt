@@ -315,7 +315,8 @@ impl<'s> Parser<'s> {
         report_unknown_logos(name, &mut self.errors)
     }
 
-    /// Adds a named argument other than `error` and `type` to the options, and reports its faults.
+    /// Adds a named argument other than `error` and `type` to the options, and reports the
+    /// argument's faults.
     fn add_plain(&mut self, name: Ident<'s>, value: &NestedValue<'_, 's>) -> Result<(), Memory>
         ensures { OnOk result (IsReport
             (option_report (ident_slice name.entry) (value_of value.now) (parser_view self.old))

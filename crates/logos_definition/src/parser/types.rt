@@ -89,8 +89,8 @@ impl<'s> Parser<'s> {
     }
 
     /// Returns the type `written` with each declared parameter replaced by the type assigned to it,
-    /// and with each lifetime replaced by `'s`. A parameter whose own type contains it is not
-    /// replaced. Each call searches for these parameters anew.
+    /// and with each lifetime replaced by `'s`. A parameter is not replaced if the type assigned to
+    /// it contains the parameter itself. Each call searches for these parameters anew.
     ///
     /// If too many types are nested in the result, reports the nesting at `span` and returns the
     /// type as written.

@@ -21,8 +21,8 @@ pub struct CharacterRest {
     pub offsets: Vec<CharRange>,
 }
 
-/// The numbers of the characters with a given first byte: those from `floor` on in a block that
-/// begins at `start`. `left` further bytes distinguish the numbers of the block.
+/// The numbers of the characters with a given first byte: the numbers from `floor` on in a block
+/// that begins at `start`. `left` further bytes distinguish the numbers of the block.
 #[derive(Clone, Copy)]
 struct Block {
     left: u8,
