@@ -1,13 +1,14 @@
-//! Erases the crates of the programs into `OUT_DIR`, but for those that the package `logos-codegen`
-//! holds. Sets the variable `LOGOS_COMMIT` for the compiler: the commit of the clone, or nothing if
-//! there is no clone or a file of it has changed.
+//! Erases the crates of the programs into `OUT_DIR`, except for the crates that the package
+//! `logos-codegen` contains. Sets the variable `LOGOS_COMMIT` for the compiler to the commit of the
+//! clone. The variable is empty if there is no clone, or if a file of the clone has changed.
 
 use rattle_erase::{Crates, LIBRARY, build};
 use std::io;
 use std::path::Path;
 use std::process::{Command, ExitCode};
 
-/// An addition to the module of the program `logos`, in which its command is private.
+/// A function that is added to the module of the program `logos`, because the module's own function
+/// is private.
 const RUN_LOGOS: &str = "\
 /// Runs the command of `logos` that the arguments name. Returns the exit status.
 pub fn run_logos_program(rt: &HostRuntime, arguments: Result<Vec<String>, Failure<'static>>) -> u8 {
@@ -15,8 +16,8 @@ pub fn run_logos_program(rt: &HostRuntime, arguments: Result<Vec<String>, Failur
 }
 ";
 
-/// The re-export that this package needs from the modules of `logos_cli` and `logos_show`, where it
-/// is private.
+/// A re-export that is added to the modules of `logos_cli` and `logos_show`, because the function
+/// is private in these modules.
 const RUN_COMMAND: &str = "pub(crate) use self::program::run as run_command;\n";
 
 fn erase() -> io::Result<()> {
@@ -35,7 +36,7 @@ fn erase() -> io::Result<()> {
     build(&modules)
 }
 
-/// Runs git in the clone, and returns its output.
+/// Runs git with the arguments `words` in the clone. Returns the output, or `None` if git fails.
 fn git(words: &[&str]) -> Option<String> {
     let output = Command::new("git")
         .args(["-C", "../.."])
@@ -46,7 +47,8 @@ fn git(words: &[&str]) -> Option<String> {
     output.status.success().then(|| text.trim().to_string())
 }
 
-/// Returns the commit of the clone that this package belongs to, if no file of it has changed.
+/// Returns the commit of the clone that contains this package. Returns `None` if there is no clone,
+/// or if a file of the clone has changed.
 fn commit() -> Option<String> {
     if !Path::new("../../.git").exists() || !Path::new("../../crates.txt").exists() {
         return None;

@@ -1,11 +1,12 @@
-//! Passes a checksum of the library's sources to the macro, so that the macro uses no stored
-//! answers of another library.
+//! Passes a checksum of the library's sources to the macro, so that the macro ignores the stored
+//! answers of other versions of the library.
 
 use std::fs;
 use std::path::{Path, PathBuf};
 
-/// The folders beside the package with the sources of the macro and of everything that it calls. A
-/// package from a registry lacks them, and its version identifies the sources.
+/// The folders with the sources of the macro and of the packages that it calls, relative to the
+/// package. In a package from a registry only the first folder exists, and the version of the
+/// package identifies the other sources.
 const FOLDERS: [&str; 4] = [
     "src",
     "../logos-codegen",
@@ -13,10 +14,11 @@ const FOLDERS: [&str; 4] = [
     "../erase/src",
 ];
 
-/// The crates in Rattle, and a file that is beside them.
+/// The folder of the crates in Rattle, and a file beside this folder. The crates are read only if
+/// both exist.
 const CRATES: [&str; 2] = ["../../crates", "../../crates.txt"];
 
-/// Folders that do not affect the behavior of a library.
+/// The names of folders that do not affect the behavior of the library.
 const LEFT_OUT: [&str; 6] = ["must-fail", "out", "proofs", "specs", "target", "tests"];
 
 fn main() {
@@ -37,7 +39,8 @@ fn main() {
     println!("cargo::rustc-env=LOGOS_LIBRARY={sum:016x}");
 }
 
-/// Adds the Rust and Rattle sources of a folder. Links are not followed.
+/// Adds the paths of the Rust and Rattle sources in a folder to `files`. Links to folders are not
+/// followed.
 fn add_sources(folder: &Path, files: &mut Vec<PathBuf>) {
     let Ok(entries) = fs::read_dir(folder) else {
         return;
@@ -56,7 +59,8 @@ fn add_sources(folder: &Path, files: &mut Vec<PathBuf>) {
     }
 }
 
-/// Adds the bytes of a file to a sum: FNV-1a over words of eight bytes.
+/// Returns the checksum `sum` extended by the bytes of a file. The checksum is a variant of FNV-1a
+/// that reads words of eight bytes and rotates the sum.
 fn add(sum: u64, bytes: Vec<u8>) -> u64 {
     let mix = |sum: u64, word: u64| {
         (sum ^ word)

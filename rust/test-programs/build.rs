@@ -1,10 +1,11 @@
-//! Erases the programs of the tests and the examples into `OUT_DIR`, each as a module.
+//! Erases the contracts of the programs of the tests and the examples. Writes each program into
+//! `OUT_DIR` as a module.
 
 use rattle_erase::{Crates, Module, Paths, build};
 use std::io;
 use std::process::ExitCode;
 
-/// The programs, and their sources.
+/// The name and the source of each program.
 const PROGRAMS: [(&str, &str); 10] = [
     ("calls", "../../tests/calls/src"),
     ("evidence", "../../tests/evidence/src"),
@@ -18,7 +19,7 @@ const PROGRAMS: [(&str, &str); 10] = [
     ("first", "../../docs/guide/first.rt.in"),
 ];
 
-/// The function that runs a program from outside of its module.
+/// The function that runs a program from outside its module.
 const START: &str = "\
 pub fn start() -> std::process::ExitCode {
     std::process::Termination::report(main(HostRuntime))

@@ -1,5 +1,5 @@
-//! Appends a note about the variants of two lexers for which the callbacks are written differently.
-//! Used by `logos_replies` for `--compare`.
+//! Appends a note about variants whose callbacks are written differently in two lexers. Used by
+//! `logos_replies` for `--compare`.
 
 use crate::difference::NamedLexer;
 use crate::names::variant_of;
@@ -11,14 +11,14 @@ use std::alloc::{AllocError, Global};
 /// The variants and callbacks of a lexer, for lookups.
 #[derive(Drop)]
 struct Known<'l> {
-    /// The names of the lexer's variants, and `skip` if it has skips.
+    /// The names of the lexer's variants, and `skip` if the lexer has skips.
     variants: IndexSet<&'l str>,
-    /// Pairs of a name in `variants` and the callback of a leaf with this name. A missing callback
-    /// is an empty text.
+    /// Pairs of a leaf's name in `variants` and the text of the leaf's callback. The text is empty
+    /// if the leaf has no callback.
     callbacks: IndexSet<(&'l str, &'l str)>,
 }
 
-/// Appends a note that names each variant of both lexers for which they have differently written
+/// Appends a note that names each variant that occurs in two lexers with differently written
 /// callbacks. Skips count as one variant, `skip`. Appends nothing if there is no such variant.
 ///
 /// # Errors
@@ -34,8 +34,7 @@ pub fn push_callbacks<'l>(
     push_differing(alloc, page, &known, other)
 }
 
-/// Appends the note about two lexers: `other`, and the lexer with the variants and callbacks in
-/// `known`.
+/// Appends the note about `other` and the lexer whose variants and callbacks are in `known`.
 fn push_differing<'l>(
     alloc: Global,
     page: &mut Page,
@@ -46,7 +45,7 @@ fn push_differing<'l>(
     push_names_of(alloc, page, known, &other)
 }
 
-/// Appends the note about two lexers, whose variants and callbacks are in `known` and `other`.
+/// Appends the note about the two lexers whose variants and callbacks are in `known` and `other`.
 fn push_names_of<'l>(
     alloc: Global,
     page: &mut Page,
@@ -60,7 +59,7 @@ fn push_names_of<'l>(
     Ok(())
 }
 
-/// Returns the variants of a lexer, and the callbacks of their leaves.
+/// Returns the variants of a lexer and the callbacks of its leaves.
 fn known_of<'l>(alloc: Global, one: NamedLexer<'l, '_>) -> Result<Known<'l>, AllocError> {
     let mut known = Known {
         variants: IndexSet::new(alloc),
@@ -72,7 +71,7 @@ fn known_of<'l>(alloc: Global, one: NamedLexer<'l, '_>) -> Result<Known<'l>, All
     Ok(known)
 }
 
-/// Adds to `known` the variant `name` of a leaf, and the pair of `name` and the leaf's callback.
+/// Adds a leaf of the variant `name` with the callback `callback` to `known`.
 fn add_leaf<'l>(known: &mut Known<'l>, name: &'l str, callback: &'l str) -> Result<(), AllocError> {
     match known.variants.insert_full(name) {
         Ok(_) => {}
@@ -92,8 +91,8 @@ fn name_of<'l>(leaf: &'l Leaf<'_>) -> &'l str {
     }
 }
 
-/// Returns the callback of a leaf as it is written in `text`, the text of its enum, or an empty
-/// text if the leaf has none.
+/// Returns the callback of a leaf as written in `text`, the text of the leaf's enum, or an empty
+/// text if the leaf has no callback.
 fn callback_of<'l>(text: &'l str, leaf: &Leaf<'_>) -> &'l str {
     let Some(callback) = &leaf.callback else {
         return "";
@@ -118,8 +117,8 @@ fn add_differing<'l>(
     Ok(())
 }
 
-/// Adds to `differing` the variant of `pair`, a variant with a callback, if `other` has the variant
-/// but not this pair.
+/// Adds the variant of `pair` to `differing` if `other` has the variant but not the pair. The pair
+/// consists of a variant and a callback.
 fn add_if_differing<'l>(
     differing: &mut IndexSet<&'l str>,
     pair: (&'l str, &'l str),
@@ -134,7 +133,7 @@ fn add_if_differing<'l>(
     }
 }
 
-/// Appends the note that names these variants, unless there are none.
+/// Appends the note that names `variants`, or nothing if `variants` is empty.
 fn push_note(page: &mut Page, variants: &[&str]) {
     if variants.is_empty() {
         return;
@@ -144,7 +143,7 @@ fn push_note(page: &mut Page, variants: &[&str]) {
     page.push(" are written in another way: what they do is not compared\n");
 }
 
-/// Appends names in backticks, with commas between them.
+/// Appends names in backticks, separated by commas.
 fn push_names(page: &mut Page, names: &[&str]) {
     for number in 0..names.len() {
         page.push(if number == 0 { "`" } else { ", `" });

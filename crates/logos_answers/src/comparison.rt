@@ -13,7 +13,7 @@ use std::alloc::{AllocError, Global};
 /// The result of a comparison of two lexers.
 #[derive(Debug, Drop)]
 pub enum Compared {
-    /// The two lexers find equal variants and errors from each offset of each input.
+    /// The two lexers find items of equal kinds, variants and lengths at each offset of each input.
     Same,
     /// The two lexers find items of different kinds, variants or lengths at the beginning of this
     /// input.
@@ -22,9 +22,9 @@ pub enum Compared {
     OtherMode,
 }
 
-/// Compares the lexers of two graphs without faults. Two lexers are equivalent if both read text or
-/// both read any bytes, and if from each offset of each input they find the same kind of item, with
-/// the same variant name and the same end. The effects of callbacks are not compared.
+/// Compares the lexers of two graphs without faults. The lexers are equivalent if both read UTF-8
+/// or both read any bytes, and if at each offset of each input they find items with equal kinds,
+/// variant names and ends. The effects of callbacks are not compared.
 ///
 /// # Errors
 ///
@@ -56,7 +56,8 @@ pub fn compare_lexers(
     Ok(compared_by(made))
 }
 
-/// Returns the result for two lexers that both read text or both read any bytes.
+/// Returns the result of the comparison `made` of two lexers that both read UTF-8 or both read any
+/// bytes.
 fn compared_by(made: Comparison) -> Compared
     ensures { result ≡ compared_by made }
 {
@@ -66,8 +67,8 @@ fn compared_by(made: Comparison) -> Compared
     }
 }
 
-/// Returns a number for each leaf: 0 for a skip, and for each other leaf one more than the index of
-/// its variant in `table`. Adds new variants to `table`.
+/// Returns a number for each leaf: 0 for a skip, and the index of the leaf's variant in `table`
+/// plus 1 for any other leaf. Adds missing variants to `table`.
 fn numbers_of<'l>(
     alloc: Global,
     table: &mut IndexSet<&'l str>,
@@ -87,8 +88,8 @@ fn numbers_of<'l>(
     Ok(numbers)
 }
 
-/// Returns the number of the variant `name`, which is one more than its index in `table`, or 0 for
-/// `None`, which is a skip. Adds a new name to `table`.
+/// Returns the number of the variant `name`: its index in `table` plus 1. Returns 0 if `name` is
+/// `None`, which denotes a skip. Adds a missing name to `table`.
 fn number_of<'l>(table: &mut IndexSet<&'l str>, name: Option<&'l str>) -> Result<usize, AllocError>
     ensures number { IfOk result (λ number. IsNumberOf table.new.keys
         (option_map (λ name. name.now) name.entry) number) }
@@ -102,7 +103,7 @@ fn number_of<'l>(table: &mut IndexSet<&'l str>, name: Option<&'l str>) -> Result
     }
 }
 
-/// Returns the index of `name` in `table`, plus 1. Adds a new name to `table`.
+/// Returns the index of `name` in `table` plus 1. Adds a missing name to `table`.
 fn index_of<'l>(table: &mut IndexSet<&'l str>, name: &'l str) -> Result<usize, AllocError>
     ensures number { IfOk result (λ number. IsNumberOf table.new.keys (Some name.now) number) }
     ensures grows { OnOk result (Grows table.old.keys table.new.keys) }

@@ -15,11 +15,11 @@ pub struct Counts {
     errors: usize,
 }
 
-/// The length of a whole input, and the time that its items took.
+/// The length of an input, and the time for lexing the input and writing its items.
 #[derive(Clone, Copy)]
 pub struct Totals {
     pub bytes: usize,
-    /// The milliseconds that lexing and writing took, if there is a clock.
+    /// The time in milliseconds, or `None` if there is no clock.
     pub passed: Option<usize>,
 }
 
@@ -40,7 +40,7 @@ impl Counts {
         Ok(Counts { by_leaf, errors: 0 })
     }
 
-    /// Adds 1 to the number of items of a leaf, up to `usize::MAX`. Changes nothing if there is no
+    /// Adds 1 to the number of items of `leaf`, up to `usize::MAX`. Does nothing if there is no
     /// such leaf.
     #[inline(always)]
     pub fn count_token(&mut self, leaf: usize)
@@ -60,9 +60,9 @@ impl Counts {
         self.errors = self.errors.saturating_add(1);
     }
 
-    /// Appends the counts for an input: `name`, the name of the enum, a line with the number of
-    /// items for each variant that has items, the number of errors, and the length and the time in
-    /// `totals`. The leaves of a variant must be consecutive.
+    /// Appends the enum's name `name`, a line with the number of items for each variant that has
+    /// items, and lines with the number of errors and with the length and the time in `totals`. The
+    /// time is left out if it is unknown. The leaves of each variant must be consecutive.
     pub fn push_totals(&self, page: &mut Page, name: &str, leaves: &[CodeLeaf<'_>], totals: Totals)
         ensures { Gains (totals_text name.now leaves.now self.now.by_leaf.items self.now.errors
             totals.bytes totals.passed) page.old page.new }
@@ -87,7 +87,8 @@ impl Counts {
         }
     }
 
-    /// Appends the lines with the number of errors, and with the length and the time in `totals`.
+    /// Appends lines with the number of errors and with the length and the time in `totals`. The
+    /// time is left out if it is unknown.
     fn push_ends(&self, page: &mut Page, totals: Totals)
         ensures { Gains (ends_text self.now.errors totals.bytes totals.passed) page.old page.new }
     {
@@ -96,7 +97,8 @@ impl Counts {
         push_time(page, totals.passed);
     }
 
-    /// Returns the number of items of the leaf `number`, or 0 if there is no such leaf.
+    /// Returns the number of items of the leaf at the index `number`, or 0 if there is no such
+    /// leaf.
     pub(crate) fn of_leaf(&self, number: usize) -> usize
         ensures { result ≡ slice_index self.now.by_leaf.items number }
     {
@@ -107,7 +109,7 @@ impl Counts {
     }
 }
 
-/// Appends an empty line, and the line that names an enum.
+/// Appends an empty line and a line with the enum's name `name`.
 fn push_title(page: &mut Page, name: &str)
     ensures { Gains (title_line name.now) page.old page.new }
 {
@@ -116,9 +118,9 @@ fn push_title(page: &mut Page, name: &str)
     page.push("\n");
 }
 
-/// Appends the line of a variant that has items, if the leaf `number` is its last leaf. `sum` is
-/// the number of items of the variant's leaves up to the leaf `number`. Returns the sum before the
-/// next leaf: `sum`, or 0 after the last leaf of a variant.
+/// Appends the line of a variant if the leaf at the index `number` is its last leaf and the variant
+/// has items. `sum` is the number of items of the variant's leaves up to and including this leaf.
+/// Returns 0 if the leaf is the last leaf of a variant or a skip, and `sum` otherwise.
 fn push_sum(page: &mut Page, leaves: &[CodeLeaf<'_>], number: usize, sum: usize) -> usize
     requires { number < length leaves.now }
     ensures line { Gains (line_after leaves.now number sum) page.old page.new }
@@ -131,7 +133,7 @@ fn push_sum(page: &mut Page, leaves: &[CodeLeaf<'_>], number: usize, sum: usize)
     0
 }
 
-/// Returns whether the next leaf has the variant of the leaf `number`.
+/// Returns whether the leaf at the index `number` and the next leaf share a variant.
 fn next_shares_variant(leaves: &[CodeLeaf<'_>], number: usize) -> bool
     requires { number < length leaves.now }
     ensures { result ≡ next_shares_variant leaves.now number }
@@ -142,7 +144,8 @@ fn next_shares_variant(leaves: &[CodeLeaf<'_>], number: usize) -> bool
     )
 }
 
-/// Returns whether two leaves are of one variant, compared by its name. Skips have no variant.
+/// Returns whether `one` and `other` are equal variant names. Returns `false` if either is `None`,
+/// which denotes a skip.
 fn is_same_name(one: Option<&str>, other: Option<&str>) -> bool
     ensures { result ≡ is_same_name (option_map (λ name. name.now) one.entry)
         (option_map (λ name. name.now) other.entry) }
@@ -153,8 +156,8 @@ fn is_same_name(one: Option<&str>, other: Option<&str>) -> bool
     }
 }
 
-/// Returns the name of the variant of the leaf `number`, or `None` for a skip and if there is no
-/// such leaf.
+/// Returns the variant name of the leaf at the index `number`, or `None` if the leaf is a skip or
+/// does not exist.
 pub fn code_name_at<'l>(leaves: &'l [CodeLeaf<'_>], number: usize) -> Option<&'l str>
     ensures { option_map (λ name. name.now) result ≡ code_variant leaves.now number }
 {
@@ -164,7 +167,8 @@ pub fn code_name_at<'l>(leaves: &'l [CodeLeaf<'_>], number: usize) -> Option<&'l
     }
 }
 
-/// Appends the line of the variant `name`. Appends nothing if `count` is 0 or `name` is `None`.
+/// Appends the line of the variant `name` with its number of items, `count`. Appends nothing if
+/// `count` is 0 or `name` is `None`.
 fn push_variant(page: &mut Page, name: Option<&str>, count: usize)
     ensures { Gains (variant_line (option_map (λ name. name.now) name.entry) count)
         page.old page.new }
@@ -188,7 +192,7 @@ fn push_count(page: &mut Page, name: &str, count: usize)
     page.push("\n");
 }
 
-/// Appends the line with the milliseconds that passed, if they are known.
+/// Appends the line with the elapsed time in milliseconds, or nothing if `passed` is `None`.
 fn push_time(page: &mut Page, passed: Option<usize>)
     ensures { Gains (time_line passed) page.old page.new }
 {

@@ -20,7 +20,7 @@ use std::alloc::{AllocError, Global};
 #[derive(Clone, Copy)]
 pub struct NamedLexer<'m, 's> {
     pub path: &'m str,
-    /// The text of the enum, to which the spans of its leaves are relative.
+    /// The text of the enum. The spans of the graph's leaves are relative to this text.
     pub text: &'m str,
     pub graph: &'m Graph<'s>,
     pub code: &'m Code<'s>,
@@ -31,13 +31,14 @@ pub struct NamedLexer<'m, 's> {
 pub struct Finding<'f> {
     /// The number of the match's leaf, or `None` if there is no match.
     pub leaf: Option<usize>,
-    /// The name of the match's variant, or `None` for a skip or if there is no match.
+    /// The name of the match's variant, or `None` if the match is a skip or there is no match.
     pub variant: Option<&'f str>,
-    /// The bytes of the match or of the error. Empty if the lexer finds neither.
+    /// The bytes of the match or the error, or no bytes if the lexer finds neither.
     pub bytes: &'f [u8],
 }
 
-/// Appends a line for each of two lexers, which states whether it reads UTF-8 or any bytes.
+/// Appends a line for each of two lexers. The line states whether the lexer reads UTF-8 or any
+/// bytes.
 pub fn push_modes(page: &mut Page, one: NamedLexer<'_, '_>, other: NamedLexer<'_, '_>)
     ensures { Gains (mode_line one.entry.path.now one.entry.graph.now.utf8
         ++ mode_line other.entry.path.now other.entry.graph.now.utf8) page.old page.new }
@@ -54,8 +55,8 @@ fn push_mode(page: &mut Page, one: NamedLexer<'_, '_>)
     page.push(mode_text(one.graph.utf8_mode()));
 }
 
-/// Returns the text after the path of a lexer, which states that it reads UTF-8 if `is_utf8` holds,
-/// and any bytes otherwise.
+/// Returns the text that follows the path of a lexer. The text states that the lexer reads UTF-8 if
+/// `is_utf8` is `true`, and that it reads any bytes otherwise.
 fn mode_text(is_utf8: bool) -> &'static str
     ensures { result.now ≡ (if is_utf8 then codes " reads UTF-8\n" else codes " reads any bytes\n") }
 {
@@ -66,8 +67,8 @@ fn mode_text(is_utf8: bool) -> &'static str
     }
 }
 
-/// Appends a line with an input on which two lexers differ, and for each lexer a line with the
-/// match or the error that it finds first there.
+/// Appends a line with `input`, on which two lexers differ, and a line for each lexer with the
+/// match or the error that the lexer finds first in the input.
 ///
 /// # Errors
 ///
@@ -127,7 +128,7 @@ fn push_finding(
     Ok(())
 }
 
-/// Appends the bytes of an error in quotes, or `nothing` if there are none.
+/// Appends the bytes of an error in quotes, or `nothing` if `error` is empty.
 fn push_error(page: &mut Page, error: &[u8]) {
     if error.is_empty() {
         page.push("nothing");
@@ -138,7 +139,7 @@ fn push_error(page: &mut Page, error: &[u8]) {
 }
 
 /// Returns the bytes of the error that a lexer finds at the beginning of an input, or no bytes if
-/// it finds no error there.
+/// there is no such error.
 fn first_error<'i>(code: &Code<'_>, input: &'i [u8]) -> &'i [u8] {
     let emit = |_leaf: LeafId, _slice: &[u8]| Action::Emit;
     let Ok(lexer) = Lexer::new_bytes(code, input, emit) else {
@@ -172,8 +173,7 @@ pub fn finding_of<'f>(
     }
 }
 
-/// Returns the match `found` at the beginning of an input, with the name of its variant and its
-/// bytes.
+/// Returns the finding for the match `found` at the beginning of an input.
 fn finding_by<'f>(one: NamedLexer<'f, '_>, input: &'f [u8], found: Match) -> Finding<'f> {
     Finding {
         leaf: Some(found.leaf),

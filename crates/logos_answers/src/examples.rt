@@ -1,5 +1,5 @@
-//! Appends for each leaf an input on which it is found, and an input on which it loses to another
-//! leaf. Used by `logos_html`, `logos_records` and `logos_replies`.
+//! Appends, for each leaf, an input on which the leaf is found and an input on which the leaf loses
+//! to another leaf. Used by `logos_html`, `logos_records` and `logos_replies`.
 
 ghost use Rattle.std.specs.Prelude.{◌≡◌, ◌++◌, ℕ, [], codes, IfOk, MatchOption, OnOk, length, option_map};
 ghost use Rattle.logos_answers.specs.Views as shown;
@@ -14,13 +14,15 @@ use logos_page::Page;
 use logos_pattern::leaf::Leaf;
 use std::alloc::{AllocError, Global};
 
-/// Two examples for a leaf: an input on which it is found, and an input on which it loses to
-/// another leaf.
+/// Two examples for a leaf: an input on which the leaf is found, and an input on which the leaf
+/// loses to another leaf.
 #[derive(Drop)]
 pub struct Evidence {
-    /// A shortest input on which a lexer finds a match of the leaf first, if there is one.
+    /// A shortest input on which a lexer finds a match of the leaf first, or `None` if there is no
+    /// such input.
     pub found: Option<Vec<u8>>,
-    /// A shortest input on which the leaf matches and another leaf is found first, if there is one.
+    /// A shortest input on which the leaf matches but another leaf is found first, or `None` if
+    /// there is no such input.
     pub loss: Option<Loss>,
 }
 
@@ -32,9 +34,10 @@ pub struct Loss {
     pub winner: usize,
 }
 
-/// Appends a line for each leaf of a graph without faults: a shortest input on which a lexer finds
-/// a match of the leaf first, and a shortest one on which the leaf matches and another leaf is
-/// found first, with that leaf. If a leaf is never found, the line states that.
+/// Appends a line with examples for each leaf of a graph without faults. The line contains a
+/// shortest input on which the leaf is found first, or states that the leaf is never found. If
+/// there is an input on which the leaf matches but another leaf is found first, the line also
+/// contains a shortest such input and the other leaf.
 ///
 /// # Errors
 ///
@@ -84,8 +87,8 @@ pub fn evidence_of(alloc: Global, graph: &Graph<'_>, leaf: usize) -> Result<Evid
     Ok(Evidence { found, loss })
 }
 
-/// Returns a shortest input on which a leaf matches but another leaf is found first, with that
-/// leaf, or `None` if there is no such input.
+/// Returns a shortest input on which a leaf matches but another leaf is found first, together with
+/// the other leaf. Returns `None` if there is no such input.
 fn loss_of(alloc: Global, graph: &Graph<'_>, leaf: usize) -> Result<Option<Loss>, AllocError>
     ensures { IfOk result (λ loss. IsGraphOf graph.now.leaves graph.now.utf8 graph.now →
         graph.now.faults ≡ [] → MatchOption (option_map shown.loss_value loss)
@@ -98,8 +101,8 @@ fn loss_of(alloc: Global, graph: &Graph<'_>, leaf: usize) -> Result<Option<Loss>
     }
 }
 
-/// Returns `input` with the leaf whose match a lexer finds at the beginning of the input, or `None`
-/// if no leaf matches there.
+/// Returns `input` together with the leaf that a lexer finds at the beginning of the input. Returns
+/// `None` if no leaf matches at the beginning.
 fn with_winner(alloc: Global, graph: &Graph<'_>, input: Vec<u8>) -> Result<Option<Loss>, AllocError>
     ensures { IfOk result (λ loss. (leaf : ℕ) →
         IsGraphOf graph.now.leaves graph.now.utf8 graph.now → graph.now.faults ≡ [] →
@@ -129,7 +132,7 @@ fn push_evidence(page: &mut Page, leaves: &[Leaf<'_>], leaf: usize, evidence: &E
     page.push("\n");
 }
 
-/// Appends the input on which a leaf is found, or `finds nothing` if there is none.
+/// Appends `finds` and the input on which a leaf is found, or `finds nothing` if `found` is `None`.
 fn push_found(page: &mut Page, found: &Option<Vec<u8>>)
     ensures { Gains (shown.found_text (option_map (λ input. input.items) found.now))
         page.old page.new }
@@ -140,7 +143,7 @@ fn push_found(page: &mut Page, found: &Option<Vec<u8>>)
     }
 }
 
-/// Appends `finds`, and an input on which a leaf is found, in quotes.
+/// Appends `finds` and, in quotes, an input on which a leaf is found.
 fn push_example_of(page: &mut Page, input: &[u8])
     ensures { Gains (codes "finds " ++ quoted input.now) page.old page.new }
 {
@@ -148,8 +151,8 @@ fn push_example_of(page: &mut Page, input: &[u8])
     push_quoted(page, input);
 }
 
-/// Appends the input on which a leaf loses, and the leaf that is found there, if there is such an
-/// input.
+/// Appends the input on which a leaf loses and the leaf that is found instead. Appends nothing if
+/// `loss` is `None`.
 fn push_loss(page: &mut Page, leaves: &[Leaf<'_>], loss: &Option<Loss>)
     ensures { Gains (shown.loss_text leaves.now (option_map shown.loss_value loss.now))
         page.old page.new }
@@ -159,7 +162,7 @@ fn push_loss(page: &mut Page, leaves: &[Leaf<'_>], loss: &Option<Loss>)
     }
 }
 
-/// Appends `loses`, an input on which a leaf loses, and the leaf `winner` that is found there.
+/// Appends `loses`, the input on which a leaf loses, and the leaf `winner` that is found instead.
 fn push_lost(page: &mut Page, leaves: &[Leaf<'_>], input: &[u8], winner: usize)
     ensures { Gains (codes ", loses " ++ (quoted input.now
         ++ (codes " to " ++ leaf_text leaves.now winner))) page.old page.new }

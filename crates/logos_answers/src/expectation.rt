@@ -1,4 +1,4 @@
-//! Compares an answer with a stored one. Used by `logos_replies` for `--expect`.
+//! Compares an answer with a stored answer. Used by `logos_replies` for `--expect`.
 
 ghost use Rattle.std.specs.Prelude.{◌≡◌, ◌≤◌, ◌↔◌, ◌++◌, ℕ, List, IsTrue, drop, length, take};
 ghost use Rattle.logos_answers.specs.Imports.{Gains, IsLineStart, ShowsAgreement, line_text, timeless};
@@ -8,13 +8,14 @@ use crate::quotes::push_quoted;
 use logos_lines::{Cursor, Location};
 use logos_page::Page;
 
-/// The beginning of the line with the time, which differs between equal calls of a program.
+/// The beginning of the line with the time. The time differs between runs of a program with equal
+/// arguments.
 const TIME: &[u8] = b"milliseconds: ";
 
-/// Appends the result of comparing the answer `made` with the answer `stored` in the file at
-/// `path`, and returns whether they are equal. If they are not, the result is the line and the
-/// column of the stored answer at which they first differ, and the line of each answer there. A
-/// last line with the time is not compared.
+/// Appends the result of comparing the answer `made` with the answer `stored` from the file at
+/// `path`, and returns whether the answers are equal. If they differ, the result consists of the
+/// location of the first difference in `stored` and the differing line of each answer. A last line
+/// with the time is not compared.
 pub fn push_agreement(page: &mut Page, path: &str, stored: &[u8], made: &[u8]) -> bool
     ensures same { IsTrue result ↔ (timeless stored.now ≡ timeless made.now) }
     ensures shows { ShowsAgreement path.now result page.old page.new }
@@ -29,8 +30,8 @@ pub fn push_agreement(page: &mut Page, path: &str, stored: &[u8], made: &[u8]) -
     false
 }
 
-/// Returns an answer without its last line if that is the line with the time, otherwise the whole
-/// answer.
+/// Returns an answer without its last line if the last line contains the time, and the whole answer
+/// otherwise.
 fn without_time(answer: &[u8]) -> &[u8]
     ensures { result.now ≡ timeless answer.now }
 {
@@ -53,7 +54,7 @@ fn line_start(text: &[u8], at: usize) -> usize
     start
 }
 
-/// Returns the bytes before the offset `at`, or all bytes if the text is shorter.
+/// Returns the bytes before the offset `at`, or all bytes if the text has fewer than `at` bytes.
 fn front_of(text: &[u8], at: usize) -> &[u8]
     ensures { result.now ≡ take at text.now }
 {
@@ -63,7 +64,7 @@ fn front_of(text: &[u8], at: usize) -> &[u8]
     }
 }
 
-/// Returns the bytes from the offset `at` to the end, or no bytes if the text is shorter.
+/// Returns the bytes from the offset `at` on, or no bytes if the text has fewer than `at` bytes.
 fn tail_of(text: &[u8], at: usize) -> &[u8]
     ensures { result.now ≡ drop at text.now }
 {
@@ -73,8 +74,8 @@ fn tail_of(text: &[u8], at: usize) -> &[u8]
     }
 }
 
-/// Appends the location in the stored answer at which two answers first differ, and the line of
-/// each answer there.
+/// Appends the location in `stored` at which two answers first differ, and the differing line of
+/// each answer.
 fn push_difference(page: &mut Page, path: &str, stored: &[u8], made: &[u8])
     ensures { (rest : List ℕ) × Gains (shown_text path.now ++ rest) page.old page.new }
 {
@@ -86,7 +87,7 @@ fn push_difference(page: &mut Page, path: &str, stored: &[u8], made: &[u8])
     push_line(page, "found    ", line_from(made, start));
 }
 
-/// Returns the length of the common prefix of two texts, in bytes.
+/// Returns the length in bytes of the common prefix of two texts.
 fn common_length(one: &[u8], other: &[u8]) -> usize
     ensures { result ≤ length one.now }
 {
@@ -97,8 +98,8 @@ fn common_length(one: &[u8], other: &[u8]) -> usize
     at
 }
 
-/// Returns the bytes of the line that begins at the offset `start`, without its LF, or no bytes if
-/// the text is shorter.
+/// Returns the line that begins at the offset `start`, without its LF, or no bytes if the text has
+/// fewer than `start` bytes.
 fn line_from(text: &[u8], start: usize) -> &[u8] {
     let tail = tail_of(text, start);
     match tail.iter().position(|byte| *byte == b'\n') {
@@ -107,8 +108,8 @@ fn line_from(text: &[u8], start: usize) -> &[u8] {
     }
 }
 
-/// Appends the line and the column of the byte offset `at` of a text, and the rest of the line that
-/// reports a difference.
+/// Appends the location of the byte offset `at` in a text, and the rest of the line that reports a
+/// difference.
 fn push_location(page: &mut Page, text: &[u8], at: usize)
     ensures { (added : List ℕ) × Gains added page.old page.new }
 {
@@ -128,7 +129,7 @@ fn push_point(page: &mut Page, location: Location)
     page.push(": the answer is another\n");
 }
 
-/// Appends a line with the text `before`, and a line of an answer in quotes.
+/// Appends a line that consists of the text `before` and, in quotes, the line `line` of an answer.
 fn push_line(page: &mut Page, before: &str, line: &[u8])
     ensures { Gains (line_text before.now line.now) page.old page.new }
 {

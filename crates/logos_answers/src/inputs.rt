@@ -10,8 +10,8 @@ use logos_graph::graph::Graph;
 use logos_page::Page;
 use std::alloc::{AllocError, Global};
 
-/// Appends a line for each of the first `most` inputs that together take all edges of a graph, and
-/// returns the number of all these inputs. A line is a Rust literal.
+/// Appends inputs that together take all edges of a graph, as Rust literals, one on each line.
+/// Appends at most the first `most` inputs, and returns the number of all inputs found.
 ///
 /// # Errors
 ///
@@ -30,7 +30,7 @@ pub fn push_inputs(
     Ok(inputs.len())
 }
 
-/// Returns the first `most` inputs, or all if there are fewer.
+/// Returns the first `most` inputs, or all inputs if there are fewer.
 pub fn first_of(inputs: &[Vec<u8>], most: usize) -> &[Vec<u8>]
     ensures { result.now ≡ take most inputs.now }
 {
@@ -40,7 +40,7 @@ pub fn first_of(inputs: &[Vec<u8>], most: usize) -> &[Vec<u8>]
     }
 }
 
-/// Appends a line for each of these inputs.
+/// Appends each input as a Rust literal on its own line.
 fn push_literals(page: &mut Page, inputs: &[Vec<u8>])
     ensures { Gains (flat_map input_line (map (λ input. input.items) inputs.now)) page.old page.new }
 {
@@ -49,7 +49,7 @@ fn push_literals(page: &mut Page, inputs: &[Vec<u8>])
     }
 }
 
-/// Appends the line of an input, which is a Rust literal.
+/// Appends an input as a Rust literal on its own line.
 fn push_line(page: &mut Page, input: &[u8])
     ensures { Gains (input_line input.now) page.old page.new }
 {

@@ -1,6 +1,6 @@
-//! Answers about a lexer, as lines of text: its leaves, its items, the matches from a point,
-//! examples for a leaf, inputs that take all of its edges, whether two lexers are equivalent, and
-//! whether an answer equals a stored one. Called by `logos_show` and `logos_items`.
+//! Writes answers about lexers as lines of text: the leaves of a lexer, its items, the matches that
+//! begin at an offset, examples for each leaf, inputs that together take all edges of a graph, and
+//! the results of comparing two lexers or two answers. Called by `logos_show` and `logos_items`.
 
 #![tactic(auto)]
 

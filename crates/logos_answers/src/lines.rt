@@ -8,21 +8,22 @@ use logos_lines::Location;
 use std::alloc::AllocError;
 use std::str;
 
-/// The maximum number of characters of an item that are shown, or of bytes if it is not UTF-8.
+/// The maximum number of shown characters of an item, or of shown bytes if the item is not UTF-8.
 const SHOWN: usize = 60;
 
 /// The maximum length in bytes of a location: two numbers of 20 digits with a colon between them.
 const POSITION: usize = 41;
 
-/// The length in bytes of the longest head for which a line is assembled in one buffer.
+/// The maximum length in bytes of the head of a line that is assembled in one buffer.
 const HEAD: usize = 64;
 
-/// The length in bytes of the longest line that is assembled in one buffer: a location, a head, an
+/// The maximum length in bytes of a line that is assembled in one buffer: a location, a head, an
 /// escape of four bytes for each shown byte, a quote and a line end.
 pub const LINE: usize = 347;
 
-/// Appends the line of an item to `block`: its location, `head`, which names the item and opens the
-/// quotes, and its text `slice` with the closing quote. A short line is assembled in `line` first.
+/// Appends the line of an item to `block`. The line consists of the item's location, the text
+/// `head`, which names the item and opens the quotes, and the item's text `slice` with the closing
+/// quote. A short line is assembled in the buffer `line` first.
 ///
 /// # Errors
 ///
@@ -47,8 +48,8 @@ pub fn push_item(
     block.extend_from_slice(b"\n")
 }
 
-/// Writes a location as `line:column` into `line` so that it ends at the index `POSITION`, and
-/// returns the index at which it begins.
+/// Writes a location as `line:column` into `line` so that the location ends at the index
+/// `POSITION`. Returns the index at which the location begins.
 #[inline(always)]
 fn write_location(line: &mut [u8; LINE], location: Location) -> usize
     ensures { result ≤ 41 }
@@ -59,8 +60,8 @@ fn write_location(line: &mut [u8; LINE], location: Location) -> usize
     write_digits(location.line as u64, line, colon)
 }
 
-/// Writes the rest of the line of an item with a short ASCII text into `line`, after the location,
-/// and returns the index at which the line ends.
+/// Completes the line of an item with a short ASCII text: writes `head`, `slice`, the closing quote
+/// and a line end after the location in `line`. Returns the index at which the line ends.
 #[inline(always)]
 fn write_short(line: &mut [u8; LINE], head: &[u8], slice: &[u8]) -> usize
     requires head { length head.now ≤ 64 }
@@ -77,7 +78,7 @@ fn write_short(line: &mut [u8; LINE], head: &[u8], slice: &[u8]) -> usize
     at + 2
 }
 
-/// Writes `text` into `line` from the index `at` on, and returns the index at which it ends.
+/// Writes `text` into `line` from the index `at` on. Returns the index at which the text ends.
 #[inline(always)]
 fn write_text(line: &mut [u8], at: usize, text: &[u8]) -> usize
     requires { at + length text.now ≤ length line.old }
@@ -88,8 +89,8 @@ fn write_text(line: &mut [u8], at: usize, text: &[u8]) -> usize
     end
 }
 
-/// Writes a byte, or its escape if it needs one in quotes, into `text` from the index `at` on, and
-/// returns the index at which it ends.
+/// Writes a byte into `text` from the index `at` on, as an escape if the byte must be escaped in
+/// quotes. Returns the index after the written bytes.
 #[inline(always)]
 fn write_byte(text: &mut [u8], at: usize, byte: u8) -> usize
     requires { at + 4 ≤ length text.old }
@@ -109,8 +110,8 @@ fn is_plain(byte: u8) -> bool {
     (b' ' <= byte) & (byte <= b'~') & (byte != b'"') & (byte != b'\\')
 }
 
-/// Writes the escape of a byte into `text` from the index `at` on, and returns the index at which
-/// it ends.
+/// Writes the escape of a byte into `text` from the index `at` on. Returns the index at which the
+/// escape ends.
 fn write_escape(text: &mut [u8], at: usize, byte: u8) -> usize
     requires { at + 4 ≤ length text.old }
     ensures after { at ≤ result }
@@ -150,15 +151,15 @@ fn hexadecimal_digit(number: u8) -> u8
     }
 }
 
-/// Appends a number in decimal to `block`. If memory runs out, nothing was appended.
+/// Appends a number in decimal to `block`, or nothing if memory runs out.
 fn push_number(block: &mut Vec<u8>, number: usize) -> Result<(), AllocError> {
     let mut digits = [0; 20];
     let from = write_digits(number as u64, &mut digits, 20);
     block.extend_from_slice(&digits[from..])
 }
 
-/// Appends the shown part of an item, the closing quote, and the item's length if a part is not
-/// shown.
+/// Appends the shown part of an item, the closing quote, and the item's length if the item is not
+/// shown in full.
 fn push_quoted(block: &mut Vec<u8>, slice: &[u8]) -> Result<(), AllocError> {
     match str::from_utf8(slice) {
         Ok(text) => push_text(block, text),
@@ -167,7 +168,7 @@ fn push_quoted(block: &mut Vec<u8>, slice: &[u8]) -> Result<(), AllocError> {
 }
 
 /// Appends the first `SHOWN` characters of a text, the closing quote, and the number of characters
-/// if there are more.
+/// if it exceeds `SHOWN`.
 fn push_text(block: &mut Vec<u8>, text: &str) -> Result<(), AllocError> {
     for character in text.chars().take(SHOWN) {
         push_character(block, character)?;
@@ -175,8 +176,8 @@ fn push_text(block: &mut Vec<u8>, text: &str) -> Result<(), AllocError> {
     push_end(block, text.chars().count(), " characters")
 }
 
-/// Appends the first `SHOWN` of these bytes, which are not UTF-8, the closing quote, and the number
-/// of bytes if there are more.
+/// Appends the first `SHOWN` bytes of an item that is not UTF-8, the closing quote, and the number
+/// of bytes if it exceeds `SHOWN`.
 fn push_bytes(block: &mut Vec<u8>, slice: &[u8]) -> Result<(), AllocError> {
     for byte in slice.iter().take(SHOWN) {
         push_byte(block, *byte)?;
@@ -184,8 +185,8 @@ fn push_bytes(block: &mut Vec<u8>, slice: &[u8]) -> Result<(), AllocError> {
     push_end(block, slice.len(), " bytes")
 }
 
-/// Appends the closing quote, and two dots with the length `count` and its `unit` if a part is not
-/// shown.
+/// Appends the closing quote. If `count` exceeds `SHOWN`, also appends two dots and the length
+/// `count` with its unit `unit`.
 fn push_end(block: &mut Vec<u8>, count: usize, unit: &str) -> Result<(), AllocError> {
     block.extend_from_slice(b"\"")?;
     if count <= SHOWN {
@@ -196,7 +197,7 @@ fn push_end(block: &mut Vec<u8>, count: usize, unit: &str) -> Result<(), AllocEr
     block.extend_from_slice(unit.as_bytes())
 }
 
-/// Appends a character, or its escape if it needs one in quotes.
+/// Appends a character, or its escape if the character must be escaped in quotes.
 fn push_character(block: &mut Vec<u8>, character: char) -> Result<(), AllocError> {
     let code = character as u32;
     if code < 128 {
@@ -210,7 +211,7 @@ fn push_character(block: &mut Vec<u8>, character: char) -> Result<(), AllocError
 }
 
 /// Appends the escape of a hidden character: `\u{..}` with the four or six hexadecimal digits of
-/// its number `code`.
+/// its code point `code`.
 fn push_number_escape(block: &mut Vec<u8>, code: u32) -> Result<(), AllocError> {
     block.extend_from_slice(b"\\u{")?;
     if code > 0xFFFF {
@@ -227,7 +228,7 @@ fn push_two_digits(block: &mut Vec<u8>, byte: u8) -> Result<(), AllocError> {
     block.extend_from_slice(&digits)
 }
 
-/// Appends a byte, or its escape if it needs one in quotes.
+/// Appends a byte, or its escape if the byte must be escaped in quotes.
 fn push_byte(block: &mut Vec<u8>, byte: u8) -> Result<(), AllocError> {
     let mut text = [0; 4];
     let to = write_byte(&mut text, 0, byte);

@@ -5,8 +5,8 @@ ghost use Rattle.logos_answers.specs.Locations.{digits_after, number_named, loca
 
 use logos_lines::Location;
 
-/// Returns the line and the column in an argument such as `2:14`, or `None` if the argument is not
-/// two numbers, as `number_by_text` reads them, with a colon between them.
+/// Returns the location in an argument such as `2:14`. Returns `None` unless the argument consists
+/// of two numbers that `number_by_text` reads, separated by a colon.
 pub fn location_by_word(word: &str) -> Option<Location>
     ensures { result ≡ location_named word.now }
 {
@@ -16,7 +16,8 @@ pub fn location_by_word(word: &str) -> Option<Location>
     }
 }
 
-/// Returns the location with this line and this column, or `None` if one of them is `None`.
+/// Returns the location with the line `line` and the column `column`, or `None` if either is
+/// `None`.
 fn location_of(line: Option<usize>, column: Option<usize>) -> Option<Location>
     ensures { result ≡ location_of line column }
 {
@@ -35,9 +36,9 @@ pub fn number_by_text(text: &str) -> Option<usize>
     digits_after(0, text.as_bytes())
 }
 
-/// Returns the number whose digits are those of `number` followed by `digits`. Returns `None` if
-/// the digits do not spell a positive number of at most seventeen digits without leading zeros.
-/// This bound also limits the depth of the recursion.
+/// Returns the number whose decimal digits are the digits of `number` followed by `digits`. Returns
+/// `None` if the digits do not form a positive number of at most seventeen digits without leading
+/// zeros. The limit of seventeen digits also bounds the depth of the recursion.
 fn digits_after(number: usize, digits: &[u8]) -> Option<usize>
     ensures { result ≡ digits_after (Some number) digits.now }
 {
@@ -50,8 +51,8 @@ fn digits_after(number: usize, digits: &[u8]) -> Option<usize>
     }
 }
 
-/// Returns the number with the digits of `number` and the digit `byte`, or `None` if `byte` is not
-/// an ASCII digit, or the result is 0 or has more than seventeen digits.
+/// Returns `number` with the decimal digit `byte` appended, or `None` if `byte` is not an ASCII
+/// digit or if the result is 0 or has more than seventeen digits.
 fn with_digit(number: usize, byte: u8) -> Option<usize>
     ensures { result ≡ with_digit number byte }
 {
@@ -67,7 +68,7 @@ fn with_digit(number: usize, byte: u8) -> Option<usize>
     positive(number * 10 + (byte - b'0') as usize)
 }
 
-/// Returns a number, or `None` if it is 0.
+/// Returns `number`, or `None` if it is 0.
 fn positive(number: usize) -> Option<usize>
     ensures { result ≡ positive number }
 {

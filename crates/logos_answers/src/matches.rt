@@ -13,7 +13,7 @@ use logos_page::Page;
 use logos_pattern::leaf::Leaf;
 use std::alloc::{AllocError, Global};
 
-/// A byte offset `from` of an input, with the leaves whose matches may begin there.
+/// The leaves of a lexer, an input, and the byte offset `from` of the input at which matches begin.
 #[derive(Clone, Copy)]
 struct MatchStart<'a, 's> {
     leaves: &'a [Leaf<'s>],
@@ -22,8 +22,8 @@ struct MatchStart<'a, 's> {
 }
 
 /// Appends a line for each leaf with a match that begins at the byte offset `from` of an input: the
-/// leaf, its priority, and its longest match from there. Then appends a line with the leaf whose
-/// match a lexer takes there, and the reason, or a line which states that no leaf matches.
+/// leaf, its priority, and its longest match from this offset. Then appends a line with the leaf
+/// whose match a lexer selects, and the reason, or a line stating that no leaf matches.
 ///
 /// # Errors
 ///
@@ -53,8 +53,8 @@ pub fn push_matches(
     Ok(())
 }
 
-/// Appends the match that a lexer takes at the beginning of an input, and returns `true`. Returns
-/// `false` and appends nothing if no leaf matches there.
+/// Appends the match that a lexer selects at the beginning of an input, and returns `true`. Returns
+/// `false` and appends nothing if no leaf matches at the beginning.
 ///
 /// # Errors
 ///
@@ -79,9 +79,9 @@ pub fn push_first(
     Ok(true)
 }
 
-/// Returns the last match in `matches` of each of `count` leaves, or `None` for a leaf without a
-/// match. If the matches are in the order of their ends, the last match of a leaf is its longest
-/// one.
+/// Returns the last match in `matches` for each of `count` leaves, or `None` for a leaf without a
+/// match. If `matches` is sorted by the ends of the matches, the last match of a leaf is its
+/// longest match.
 ///
 /// # Errors
 ///
@@ -100,8 +100,8 @@ pub fn longest_of(
     Ok(longest)
 }
 
-/// Sets the match of the leaf of `found` in `longest` to `found`, in place of an earlier match.
-/// Changes nothing if there is no such leaf.
+/// Stores `found` in `longest` as the match of its leaf, in place of an earlier match. Does nothing
+/// if `longest` has no entry for the leaf.
 fn set_longest(longest: &mut Vec<Option<Match>>, found: Match)
     ensures count { length longest.new.items ≡ length longest.old.items }
     ensures each { (leaf : ℕ) → leaf < length longest.old.items →
@@ -123,7 +123,7 @@ fn push_lines(page: &mut Page, start: MatchStart<'_, '_>, longest: &[Option<Matc
     }
 }
 
-/// Appends the line of a leaf with its match `found`, or nothing if it has no match.
+/// Appends the line of the match `found`, or nothing if `found` is `None`.
 fn push_found(page: &mut Page, start: MatchStart<'_, '_>, found: Option<Match>)
     ensures { Gains (shown.line_or_none start.entry.leaves.now start.entry.input.now start.entry.from
         found) page.old page.new }
@@ -156,8 +156,8 @@ pub(crate) fn push_head(page: &mut Page, leaves: &[Leaf<'_>], leaf: usize)
     page.push("  ");
 }
 
-/// Appends the length and the text of a match that ends at the offset `end` of the input, and a
-/// line end.
+/// Appends the length and the text of the match from the offset in `start` to the offset `end`, and
+/// a line end.
 fn push_extent(page: &mut Page, start: MatchStart<'_, '_>, end: usize)
     ensures { Gains (shown.extent_text start.entry.input.now start.entry.from end) page.old page.new }
 {
@@ -174,7 +174,7 @@ fn length_from(from: usize, end: usize) -> usize
     end.saturating_sub(from)
 }
 
-/// Appends a number of bytes, and `byte` or `bytes`.
+/// Appends a number of bytes with the unit `byte` or `bytes`.
 fn push_length(page: &mut Page, count: usize)
     ensures { Gains (shown.length_text count) page.old page.new }
 {
@@ -199,7 +199,7 @@ pub fn bytes_between(input: &[u8], from: usize, to: usize) -> &[u8]
     }
 }
 
-/// Appends the line with the leaf whose match a lexer takes, and the reason, or a line which states
+/// Appends the line with the leaf whose match a lexer selects, and the reason, or a line stating
 /// that no leaf matches.
 fn push_verdict(page: &mut Page, leaves: &[Leaf<'_>], matches: &[Match])
     ensures { (text : List ℕ) × shown.IsVerdict leaves.now matches.now text
@@ -211,7 +211,7 @@ fn push_verdict(page: &mut Page, leaves: &[Leaf<'_>], matches: &[Match])
     }
 }
 
-/// Appends the line with the leaf of `found`, the match that a lexer takes, and the reason.
+/// Appends the line with the leaf of the selected match `found`, and the reason.
 fn push_winner(page: &mut Page, leaves: &[Leaf<'_>], matches: &[Match], found: Match)
     ensures { Gains (shown.winner_text leaves.now matches.now found) page.old page.new }
 {
@@ -219,7 +219,7 @@ fn push_winner(page: &mut Page, leaves: &[Leaf<'_>], matches: &[Match], found: M
     page.push(reason(matches, found));
 }
 
-/// Returns the end of the line with the match that a lexer takes: the reason that it takes `found`.
+/// Returns the reason why a lexer selects the match `found`, as the end of a line.
 fn reason(matches: &[Match], found: Match) -> &'static str
     ensures { result.now ≡ shown.reason matches.now found }
 {

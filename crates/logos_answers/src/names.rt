@@ -7,7 +7,7 @@ ghost use Rattle.logos_answers.specs.Imports.{Gains, leaf_name, leaf_text, name_
 use logos_page::Page;
 use logos_pattern::leaf::{Leaf, VariantKind};
 
-/// Returns the name of the variant in the kind of a leaf, or `None` for a skip.
+/// Returns the variant name of a leaf of the kind `kind`, or `None` for a skip.
 pub fn variant_of<'l>(kind: &'l VariantKind<'_>) -> Option<&'l str>
     ensures { option_map (λ name. name.now) result ≡ variant_name kind.now }
 {
@@ -18,8 +18,8 @@ pub fn variant_of<'l>(kind: &'l VariantKind<'_>) -> Option<&'l str>
     }
 }
 
-/// Returns the name of the variant of the leaf with the number `leaf`, or `None` for a skip and if
-/// there is no such leaf.
+/// Returns the variant name of the leaf with the number `leaf`, or `None` if the leaf is a skip or
+/// does not exist.
 pub fn variant_at<'l>(leaves: &'l [Leaf<'_>], leaf: usize) -> Option<&'l str>
     ensures { option_map (λ name. name.now) result ≡ variant_text leaves.now leaf }
 {
@@ -39,8 +39,8 @@ fn leaf_name<'l>(leaf: &'l Leaf<'_>) -> &'l str
     }
 }
 
-/// Returns the name of the leaf with the number `leaf`, which is `skip` for a skip, or an empty
-/// text if there is no such leaf.
+/// Returns the name of the leaf with the number `leaf`: the name of its variant, or `skip`. Returns
+/// an empty text if there is no such leaf.
 pub fn name_at<'l>(leaves: &'l [Leaf<'_>], leaf: usize) -> &'l str
     ensures { result.now ≡ name_at leaves.now leaf }
 {
@@ -50,7 +50,7 @@ pub fn name_at<'l>(leaves: &'l [Leaf<'_>], leaf: usize) -> &'l str
     }
 }
 
-/// Appends the name in backticks and the number of the leaf with the number `leaf`.
+/// Appends the leaf with the number `leaf`: its name in backticks, and its number.
 pub fn push_leaf(page: &mut Page, leaves: &[Leaf<'_>], leaf: usize)
     ensures { Gains (leaf_text leaves.now leaf) page.old page.new }
 {

@@ -1,12 +1,12 @@
-//! Makes the note which states that callbacks were not called. Used by `logos_items`.
+//! Returns the note about callbacks that were not called. Used by `logos_items`.
 
 use crate::counts::{Counts, code_name_at};
 use logos_code::code::CodeLeaf;
 use logos_page::Page;
 use std::alloc::{AllocError, Global};
 
-/// Returns a note that names each variant of which a leaf has a callback and items, or an empty
-/// text if there is no such variant. The leaves of a variant must be consecutive.
+/// Returns a note that names each variant with a leaf that has a callback and items. Returns an
+/// empty text if there is no such variant. The leaves of each variant must be consecutive.
 ///
 /// # Errors
 ///
@@ -27,8 +27,8 @@ pub fn note_of(
     page.finish()
 }
 
-/// Returns the name of the variant of the leaf `number`, or `None` if the leaf has no callback or
-/// no items, is a skip, or does not exist.
+/// Returns the variant name of the leaf at the index `number`, or `None` if the leaf does not
+/// exist, is a skip, or has no callback or no items.
 fn variant_at<'l>(leaves: &'l [CodeLeaf<'_>], counts: &Counts, number: usize) -> Option<&'l str> {
     if counts.of_leaf(number) == 0 {
         return None;
@@ -40,9 +40,8 @@ fn variant_at<'l>(leaves: &'l [CodeLeaf<'_>], counts: &Counts, number: usize) ->
     code_name_at(leaves, number)
 }
 
-/// Appends `variant` to the note, unless it is `None` or equals `last`, which is the last variant
-/// in the note. Returns the variant that is then the last one, or an empty text if the note has
-/// none.
+/// Appends `variant` to the note, unless it is `None` or equals `last`, the last variant in the
+/// note. Returns the new last variant in the note, or an empty text if the note has no variant.
 fn push_variant<'l>(page: &mut Page, variant: Option<&'l str>, last: &'l str) -> &'l str {
     let Some(variant) = variant else {
         return last;

@@ -1,4 +1,4 @@
-//! Finds the byte offset of a line and a column of an input. Used by `logos_replies`.
+//! Finds the byte offset of a location in an input. Used by `logos_replies`.
 
 ghost use Rattle.std.specs.Prelude.{◌≡◌, ◌↔◌, ℕ, IsTrue, MatchOption, false};
 ghost use Rattle.logos_answers.specs.Imports.{IsOffsetOf, continues};
@@ -6,15 +6,15 @@ ghost use Rattle.logos_answers.specs.Imports.{IsOffsetOf, continues};
 use crate::quotes::continues;
 use logos_lines::{Cursor, Location};
 
-/// Returns whether a byte at the location `here` begins a character and `here` is `location`.
+/// Returns whether `byte` begins a character and its location `here` equals `location`.
 fn begins_at(byte: u8, here: Location, location: Location) -> bool
     ensures { IsTrue result ↔ ((continues byte ≡ false) × (here ≡ location)) }
 {
     !continues(byte) & (here == location)
 }
 
-/// Returns the byte offset of a line and a column of an input, which may be its end, or `None` if
-/// the input does not have them. Lines and columns are counted from 1, and columns count
+/// Returns the byte offset of `location` in an input, or `None` if the input has no such location.
+/// The end of the input is a location. Lines and columns are counted from 1, and columns count
 /// characters.
 pub fn offset_of(input: &[u8], location: Location) -> Option<usize>
     ensures { MatchOption result ((at : ℕ) → ¬ IsOffsetOf input.now location at)

@@ -9,9 +9,9 @@ ghost use Rattle.logos_answers.specs.Imports.{Gains};
 use logos_page::Page;
 use std::str;
 
-/// Appends bytes in quotes: as a text if the shown bytes are UTF-8, otherwise with each byte from
-/// 128 on escaped. Of more than sixty bytes the first 57 to 60 are shown, with two dots after the
-/// closing quote.
+/// Appends bytes in quotes. If the shown bytes are not UTF-8, each byte that is not ASCII is
+/// escaped. If there are more than sixty bytes, only the first 57 to 60 are shown, and two dots
+/// follow the closing quote.
 pub fn push_quoted(page: &mut Page, bytes: &[u8])
     ensures { Gains (shown.quoted bytes.now) page.old page.new }
 {
@@ -49,8 +49,8 @@ fn push_byte_string(page: &mut Page, bytes: &[u8])
     page.push("\"");
 }
 
-/// Returns the shown part of bytes: all of at most sixty, otherwise the first 57 to 60, which end
-/// between characters if the bytes are UTF-8.
+/// Returns the shown part of bytes: all bytes if there are at most sixty, otherwise the first 57 to
+/// 60. If the bytes are UTF-8, the part ends between two characters.
 fn clipped(bytes: &[u8]) -> &[u8]
     ensures { result.now ≡ shown.clipped bytes.now }
 {
@@ -60,8 +60,8 @@ fn clipped(bytes: &[u8]) -> &[u8]
     bytes
 }
 
-/// Returns the number of shown bytes of more than sixty: the greatest from 57 to 60 after which no
-/// continuation byte follows, or 57.
+/// Returns the number of bytes to show if there are more than sixty: the greatest number from 58 to
+/// 60 that is not the index of a continuation byte, or 57 if there is no such number.
 fn cut_of(bytes: &[u8]) -> usize
     requires { 60 < length bytes.now }
     ensures cut { result ≡ shown.cut_of bytes.now }
@@ -79,23 +79,23 @@ fn cut_of(bytes: &[u8]) -> usize
     57
 }
 
-/// Returns whether a byte is a continuation byte of a character.
+/// Returns whether a byte is a continuation byte of UTF-8.
 pub(crate) fn continues(byte: u8) -> bool
     ensures { result ≡ shown.continues byte }
 {
     (128 <= byte) & (byte < 192)
 }
 
-/// Returns the text after the shown part of bytes: a quote, with two dots after it if there are
-/// more than sixty bytes.
+/// Returns the text after the shown part of bytes: a quote, followed by two dots if there are more
+/// than sixty bytes.
 fn closing(bytes: &[u8]) -> &'static str
     ensures { result.now ≡ shown.closing bytes.now }
 {
     if bytes.len() > 60 { "\".." } else { "\"" }
 }
 
-/// Appends the shown form of bytes: as a text if they are UTF-8, otherwise with each byte from 128
-/// on escaped.
+/// Appends the shown form of bytes. If the bytes are not UTF-8, each byte that is not ASCII is
+/// escaped.
 fn push_shown(page: &mut Page, bytes: &[u8])
     ensures { Gains (shown.shown_bytes bytes.now) page.old page.new }
 {
@@ -123,7 +123,8 @@ fn push_bytes(page: &mut Page, bytes: &[u8])
     }
 }
 
-/// Appends the shown form of a byte that is not part of a text: from 128 on, its escape.
+/// Appends the shown form of a byte from bytes that are not UTF-8. A byte that is not ASCII is
+/// escaped.
 fn push_byte(page: &mut Page, byte: u8)
     ensures { Gains (shown.shown_byte byte) page.old page.new }
 {
@@ -157,8 +158,8 @@ fn push_character(page: &mut Page, character: char)
     }
 }
 
-/// Appends the shown form of a character without an escape of two characters: its numeric escape if
-/// it is hidden, otherwise the character.
+/// Appends the shown form of a character that has no two-character escape: its numeric escape if
+/// the character is hidden, otherwise the character.
 fn push_other(page: &mut Page, character: char)
     ensures { Gains (shown.shown_other character) page.old page.new }
 {
@@ -169,7 +170,8 @@ fn push_other(page: &mut Page, character: char)
     }
 }
 
-/// Appends the escape of the hidden character with this number: `\x` in ASCII, otherwise `\u{..}`.
+/// Appends the escape of the hidden character with the code point `number`: `\x..` for an ASCII
+/// character, otherwise `\u{..}`.
 fn push_escape(page: &mut Page, number: u32)
     ensures { Gains (shown.hidden_escape number) page.old page.new }
 {
@@ -180,7 +182,7 @@ fn push_escape(page: &mut Page, number: u32)
     }
 }
 
-/// Appends the escape `\u{..}` of the character with this number.
+/// Appends the escape `\u{..}` of the character with the code point `number`.
 fn push_number_escape(page: &mut Page, number: u32)
     ensures { Gains (shown.number_escape number) page.old page.new }
 {
@@ -231,7 +233,8 @@ fn hex_digit(number: u32) -> char
     }
 }
 
-/// Returns whether the character with this number is hidden, so that it is shown as an escape.
+/// Returns whether the character with the code point `number` is hidden. Hidden characters are
+/// shown as escapes.
 pub(crate) fn is_hidden(number: u32) -> bool
     ensures { result ≡ shown.is_hidden number }
 {
@@ -239,8 +242,7 @@ pub(crate) fn is_hidden(number: u32) -> bool
         | (is_hidden_filler(number) | (is_hidden_mark(number) | is_hidden_special(number)))
 }
 
-/// Returns whether a character is a control character, or one of the invisible characters up to
-/// U+061C.
+/// Returns whether a character is a control character, or an invisible character up to U+061C.
 fn is_hidden_low(number: u32) -> bool
     ensures { result ≡ shown.is_hidden_low number }
 {
@@ -249,7 +251,7 @@ fn is_hidden_low(number: u32) -> bool
             | ((number == 0xAD) | ((number == 0x34F) | (number == 0x61C))))
 }
 
-/// Returns whether a character is an invisible letter or vowel.
+/// Returns whether a character is an invisible letter or vowel, or a Mongolian format control.
 fn is_hidden_filler(number: u32) -> bool
     ensures { result ≡ shown.is_hidden_filler number }
 {
@@ -269,7 +271,8 @@ fn is_hidden_mark(number: u32) -> bool
                 | (is_between(0xFE00, 0xFE0F, number) | (number == 0xFEFF))))
 }
 
-/// Returns whether a character is in the Unicode blocks of specials or of tags and selectors.
+/// Returns whether a character is a Unicode special character up to U+FFFB, a tag, or a
+/// supplementary variation selector.
 fn is_hidden_special(number: u32) -> bool
     ensures { result ≡ shown.is_hidden_special number }
 {

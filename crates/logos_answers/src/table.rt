@@ -7,10 +7,10 @@ use std::cmp::max;
 /// The width of a tab, in columns.
 const TAB: usize = 4;
 
-/// The maximum number of bytes of a pattern or a callback that are shown.
+/// The maximum number of shown bytes of a pattern or a callback.
 const MOST: usize = 60;
 
-/// The widths of the columns of a table, in characters, of which a tab counts as four.
+/// The widths of the columns of a table, in characters. A tab counts as four characters.
 #[derive(Clone, Copy)]
 struct Widths {
     variant: usize,
@@ -19,8 +19,8 @@ struct Widths {
     callback: usize,
 }
 
-/// Appends a table: the line with the headings of its columns, and a line for each row of `rows`
-/// with its number.
+/// Appends a table: a line with the headings of the columns, and a numbered line for each row in
+/// `rows`.
 pub fn push_rows(page: &mut Page, rows: &[LeafRow<'_>]) {
     let widths = widths_of(rows);
     push_heads(page, widths);
@@ -29,7 +29,7 @@ pub fn push_rows(page: &mut Page, rows: &[LeafRow<'_>]) {
     }
 }
 
-/// Appends the costs of a lexer, a line for each, between two empty lines.
+/// Appends the costs of a lexer, one on each line, between two empty lines.
 pub fn push_costs(page: &mut Page, costs: Costs) {
     page.push("\n");
     push_cost(page, "states", costs.states);
@@ -70,7 +70,7 @@ fn callback_cell<'l>(row: LeafRow<'l>) -> &'l str {
     }
 }
 
-/// Returns the text before the first LF, or the whole text if it has none.
+/// Returns the text before the first LF, or the whole text if there is no LF.
 fn first_line(text: &str) -> &str {
     match text.split_once('\n') {
         Some((line, _)) => line,
@@ -78,7 +78,7 @@ fn first_line(text: &str) -> &str {
     }
 }
 
-/// Returns the widths of the columns that fit these rows and the headings.
+/// Returns the smallest column widths that fit `rows` and the headings.
 fn widths_of(rows: &[LeafRow<'_>]) -> Widths {
     let mut widths = Widths {
         variant: 7,
@@ -92,7 +92,7 @@ fn widths_of(rows: &[LeafRow<'_>]) -> Widths {
     widths
 }
 
-/// Returns the widths of the columns that fit `row` and have at least the widths `widths`.
+/// Returns `widths`, with each width increased if needed to fit `row`.
 fn widened(widths: Widths, row: LeafRow<'_>) -> Widths {
     Widths {
         variant: max(widths.variant, width_of(variant_cell(row))),
@@ -107,7 +107,7 @@ fn pattern_width(row: LeafRow<'_>) -> usize {
     cut_width(pattern_cell(row)).saturating_add(options_cell(row).len())
 }
 
-/// Returns the width of a text as `push_cut` shows it: cut if it is long.
+/// Returns the width of a text in the form in which `push_cut` appends it.
 fn cut_width(text: &str) -> usize {
     match long_front(text) {
         Some(front) => width_of(front).saturating_add(2),
@@ -115,14 +115,14 @@ fn cut_width(text: &str) -> usize {
     }
 }
 
-/// Returns the shown prefix of a text of more than `MOST` bytes, or `None` for a text that is not
-/// cut.
+/// Returns the shown prefix of a text with more than `MOST` bytes, or `None` if the text is shown
+/// in full.
 fn long_front(text: &str) -> Option<&str> {
     let (front, rest) = text.split_at_checked(text.floor_char_boundary(MOST))?;
     if rest.is_empty() { None } else { Some(front) }
 }
 
-/// Returns the width of a text, in characters, of which a tab counts as four.
+/// Returns the width of a text in characters. A tab counts as four characters.
 fn width_of(text: &str) -> usize {
     let mut width: usize = 0;
     for character in text.chars() {
@@ -131,7 +131,7 @@ fn width_of(text: &str) -> usize {
     width
 }
 
-/// Returns the width of a character, which is 4 for a tab and otherwise 1.
+/// Returns the width of a character: 4 for a tab, otherwise 1.
 fn columns_of(character: char) -> usize {
     if character == '\t' { TAB } else { 1 }
 }
@@ -147,7 +147,7 @@ fn push_heads(page: &mut Page, widths: Widths) {
     page.push("line\n");
 }
 
-/// Appends the line with the row of the leaf `number`.
+/// Appends the line with the row `row` of the leaf with the number `number`.
 fn push_row(page: &mut Page, number: usize, row: LeafRow<'_>, widths: Widths) {
     push_right(page, number, 4);
     push_cell(page, variant_cell(row), widths.variant);
@@ -169,15 +169,15 @@ fn push_row(page: &mut Page, number: usize, row: LeafRow<'_>, widths: Widths) {
     page.push("\n");
 }
 
-/// Appends a text in a form that cannot control a terminal, with spaces after it up to `width`, and
-/// two more spaces.
+/// Appends a text in a form that cannot control a terminal, padded with spaces to `width`, and two
+/// more spaces.
 fn push_cell(page: &mut Page, text: &str, width: usize) {
     page.push_shown(text);
     page.push_times(" ", width.saturating_sub(width_of(text)).saturating_add(2));
 }
 
-/// Appends a text in a form that cannot control a terminal. Of a text of more than `MOST` bytes,
-/// appends a prefix and two dots.
+/// Appends a text in a form that cannot control a terminal. If the text has more than `MOST` bytes,
+/// appends only a prefix and two dots.
 fn push_cut(page: &mut Page, text: &str) {
     match long_front(text) {
         Some(front) => {
@@ -188,7 +188,7 @@ fn push_cut(page: &mut Page, text: &str) {
     }
 }
 
-/// Appends a number, with spaces before it up to `width`, and two spaces after it.
+/// Appends a number, padded on the left with spaces to `width`, and two more spaces.
 fn push_right(page: &mut Page, number: usize, width: usize) {
     page.push_times(" ", width.saturating_sub(digits(number)));
     page.push_number(number);

@@ -1,4 +1,4 @@
-//! Finds the match or the error around an offset of an input. Used by `entries`, `partial_lines`
+//! Finds the match or the error around an offset of an input. Called by `entries`, `partial_lines`
 //! and `logos_replies`.
 
 ghost use Rattle.std.specs.Prelude.{◌≡◌, ◌<◌, ◌≤◌, ℕ, List, IfSome, length};
@@ -17,13 +17,13 @@ use std::str;
 pub enum SurroundingKind {
     /// A skipped match.
     Skip,
-    /// A match of the leaf with this number, which is not skipped.
+    /// A match that is not skipped, with the index of its leaf.
     Leaf(usize),
     /// Bytes that no leaf matches.
     Error,
 }
 
-/// A match or an error that a lexer finds, with its span in bytes of the input.
+/// A match or an error that a lexer finds, with its span in the input, in bytes.
 #[derive(Clone, Copy, Debug, PartialEq, Eq)]
 pub struct Surrounding {
     pub kind: SurroundingKind,
@@ -31,9 +31,10 @@ pub struct Surrounding {
     pub to: usize,
 }
 
-/// Returns the match or the error of a lexer on an input that begins before the byte `offset` and
-/// ends after it. The lexer begins at the first byte, and calls no callback. Returns `None` if
-/// there is no such match or error, or if the lexer refuses the input, since it is not UTF-8.
+/// Returns the match or the error that a lexer finds around the byte `offset` of an input. The
+/// match or error begins before the offset and ends after it. The lexer begins at the first byte,
+/// and calls no callback. Returns `None` if there is no such match or error, or if the lexer
+/// refuses the input because the input is not UTF-8.
 pub fn match_around(code: &Code<'_>, input: &[u8], offset: usize) -> Option<Surrounding>
     requires { offset ≤ length input.now }
     ensures { IfSome result (IsAround code.now input.now offset) }
@@ -44,13 +45,13 @@ pub fn match_around(code: &Code<'_>, input: &[u8], offset: usize) -> Option<Surr
     found_around(code, input, offset)
 }
 
-/// Returns whether a lexer refuses an input, since it is not UTF-8.
+/// Returns whether a lexer refuses an input because the input is not UTF-8.
 fn is_refused(code: &Code<'_>, input: &[u8]) -> bool {
     code.is_utf8() & str::from_utf8(input).is_err()
 }
 
 /// Returns the match or the error that begins before the byte `offset` of an input and ends after
-/// it, or `None` if there is none.
+/// this offset, or `None` if there is none.
 fn found_around(code: &Code<'_>, input: &[u8], offset: usize) -> Option<Surrounding>
     requires { offset ≤ length input.now }
     ensures { IfSome result (IsAround code.now input.now offset) }
@@ -66,8 +67,8 @@ fn found_around(code: &Code<'_>, input: &[u8], offset: usize) -> Option<Surround
     None
 }
 
-/// Returns the match or the error that begins at the byte offset `from`, which must be before the
-/// end of the input.
+/// Returns the match or the error that begins at the byte offset `from`. The offset must be before
+/// the end of the input.
 pub(crate) fn found_at(code: &Code<'_>, input: &[u8], from: usize) -> Surrounding
     requires { from < length input.now }
     ensures finds { Finds code.now input.now result }
@@ -91,7 +92,7 @@ fn around_of(kind: SurroundingKind, from: usize, to: usize) -> Surrounding
 }
 
 /// Appends a line with the match or the error that begins before the byte `offset` of an input and
-/// ends after it, if there is one.
+/// ends after this offset. Appends nothing if there is none.
 pub fn push_around(
     page: &mut Page,
     code: &Code<'_>,
@@ -136,7 +137,7 @@ fn push_kind(page: &mut Page, leaves: &[Leaf<'_>], kind: SurroundingKind)
 }
 
 /// Returns the location of the byte `offset` of an input, or of the end of the input if the offset
-/// is past it.
+/// is past the end.
 pub(crate) fn location_in(input: &[u8], offset: usize) -> Location
     ensures { result ≡ location_in input.now offset }
 {

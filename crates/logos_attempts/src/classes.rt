@@ -1,4 +1,4 @@
-//! Appends sets of bytes in a short form, as a pattern spells them. Used by `partials`,
+//! Appends sets of bytes in the short form in which a pattern spells them. Called by `partials`,
 //! `partial_lines` and `logos_diagram`.
 
 ghost use Rattle.std.specs.Prelude.{◌<◌};
@@ -10,12 +10,12 @@ use std::ops::RangeInclusive;
 /// The maximum number of ranges of needed bytes that are shown.
 const NEEDED: usize = 12;
 
-/// The number of bytes that are ASCII.
+/// The number of ASCII characters.
 const ASCII: usize = 128;
 
-/// Appends a set of bytes, one of which a leaf needs next. If the set contains the first byte of
-/// every character outside ASCII, appends `any byte`, `any character`, or the ASCII characters that
-/// the set excludes.
+/// Appends the set `class` of bytes that can follow a partial match. If one range of the set
+/// contains all bytes that begin a non-ASCII character, appends `any byte`, `any character`, or the
+/// ASCII characters that the set excludes.
 pub(crate) fn push_needed(page: &mut Page, class: &ByteClass) {
     if !is_wide(class) {
         return push_class(page, class, NEEDED);
@@ -29,7 +29,7 @@ pub(crate) fn push_needed(page: &mut Page, class: &ByteClass) {
     push_excluded(page, &class.to_table());
 }
 
-/// Returns whether one range of a set contains all bytes that begin a character outside ASCII.
+/// Returns whether one range of a set contains all bytes that begin a non-ASCII character.
 fn is_wide(class: &ByteClass) -> bool {
     has_run(class, 0xC2, 0xF4)
 }
@@ -42,8 +42,8 @@ fn has_run(class: &ByteClass, first: u8, last: u8) -> bool {
         .any(|range| (*range.start() <= first) & (last <= *range.end()))
 }
 
-/// Appends the ASCII characters whose flags in `table` are `false`, as an excluding class between
-/// brackets, such as `[^a-z]`.
+/// Appends the ASCII characters whose flags in `table` are `false`, as a negated class such as
+/// `[^a-z]`.
 pub fn push_excluded(page: &mut Page, table: &[bool; 256]) {
     page.push("[^");
     for byte in 0..ASCII {
@@ -59,8 +59,8 @@ fn push_run(page: &mut Page, range: Option<RangeInclusive<u8>>) {
     }
 }
 
-/// Returns the longest range of bytes whose flags in `table` are `flag` and that begins at `from`,
-/// or `None` if no such range begins there.
+/// Returns the maximal range of bytes whose flags in `table` are `flag`, if such a range begins at
+/// `from`. Returns `None` otherwise.
 pub(crate) fn run_at(table: &[bool], flag: bool, from: usize) -> Option<RangeInclusive<u8>> {
     if !has_flag(table, flag, from) {
         return None;
@@ -72,7 +72,8 @@ pub(crate) fn run_at(table: &[bool], flag: bool, from: usize) -> Option<RangeInc
     Some(RangeInclusive::new((from % 256) as u8, (end.saturating_sub(1) % 256) as u8))
 }
 
-/// Returns whether the flag of a byte in `table` is `flag`, or `false` past the end of the table.
+/// Returns whether the flag of a byte in `table` is `flag`. Returns `false` if the byte is past the
+/// end of the table.
 fn has_flag(table: &[bool], flag: bool, byte: usize) -> bool {
     match table.get(byte) {
         Some(found) => *found == flag,
@@ -80,7 +81,8 @@ fn has_flag(table: &[bool], flag: bool, byte: usize) -> bool {
     }
 }
 
-/// Returns the first byte, at least `from`, whose flag is not `flag`, or the length of the table.
+/// Returns the first byte from `from` on whose flag is not `flag`, or the length of the table if
+/// there is none.
 fn run_end(table: &[bool], flag: bool, from: usize) -> usize {
     for byte in from..table.len() {
         if table[byte] != flag {
@@ -90,8 +92,8 @@ fn run_end(table: &[bool], flag: bool, from: usize) -> usize {
     table.len()
 }
 
-/// Appends the first `most` ranges of a set of bytes between brackets, and the number of further
-/// ranges, if there are any.
+/// Appends the first `most` ranges of a set of bytes between brackets, followed by the number of
+/// the omitted ranges if there are any.
 pub fn push_class(page: &mut Page, class: &ByteClass, most: usize) {
     page.push("[");
     for range in class.ranges.iter().take(most) {
@@ -101,7 +103,7 @@ pub fn push_class(page: &mut Page, class: &ByteClass, most: usize) {
     push_others(page, class.ranges.len().saturating_sub(most));
 }
 
-/// Appends ` +` and the number of the ranges that are left out, unless it is 0.
+/// Appends ` +` and the number `count` of omitted ranges, unless `count` is 0.
 fn push_others(page: &mut Page, count: usize) {
     if count > 0 {
         page.push(" +");
@@ -109,7 +111,7 @@ fn push_others(page: &mut Page, count: usize) {
     }
 }
 
-/// Appends a range of bytes, as its first byte and its last byte if they differ.
+/// Appends the first byte of a range, and also the last byte if it differs from the first.
 fn push_range(page: &mut Page, range: &RangeInclusive<u8>) {
     let first = *range.start();
     let last = *range.end();
@@ -120,7 +122,7 @@ fn push_range(page: &mut Page, range: &RangeInclusive<u8>) {
     }
 }
 
-/// Appends a byte as it is written between brackets in a pattern.
+/// Appends a byte in the form in which it is written between the brackets of a pattern.
 fn push_byte(page: &mut Page, byte: u8) {
     match byte {
         b'\n' => page.push("\\n"),
@@ -132,7 +134,7 @@ fn push_byte(page: &mut Page, byte: u8) {
     }
 }
 
-/// Appends the escape of a byte that has a meaning between brackets.
+/// Appends the escape of a byte that has a special meaning between brackets.
 fn push_escaped(page: &mut Page, byte: u8) {
     page.push("\\");
     page.push_char(byte as char);
@@ -145,7 +147,7 @@ fn push_byte_escape(page: &mut Page, byte: u8) {
     page.push_char(hex_digit(byte % 16));
 }
 
-/// Returns the hexadecimal digit of a number below 16.
+/// Returns the hexadecimal digit of a number less than 16.
 fn hex_digit(number: u8) -> char
     requires { number < 16 }
 {

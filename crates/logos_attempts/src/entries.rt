@@ -1,4 +1,4 @@
-//! Counts the entries of the states of a graph by match attempts. Called by `logos_html`.
+//! Counts how often match attempts enter each state of a graph. Called by `logos_html`.
 
 ghost use Rattle.std.specs.Prelude.{◌≡◌, ◌≤◌, length};
 
@@ -11,12 +11,12 @@ use std::alloc::{AllocError, Global};
 /// The number of entries after which no further match attempt is counted.
 const MOST: usize = 4_194_304;
 
-/// The number of times that match attempts enter each state, on a prefix of an input.
+/// The number of times that match attempts on a prefix of an input enter each state.
 #[derive(Drop)]
 pub struct Entries {
-    /// The number of entries of each state.
+    /// The number of entries for each state.
     pub counts: Vec<usize>,
-    /// The byte offset at which the first match attempt that is not counted begins.
+    /// The byte offset at which the first uncounted match attempt begins.
     pub end: usize,
     /// The sum of the counts.
     total: usize,
@@ -24,7 +24,7 @@ pub struct Entries {
 
 /// Returns the number of times that match attempts enter each state of a graph. The match attempts
 /// begin in the first `most` bytes of an input, and are followed only to the end of these bytes.
-/// After 4,194,304 entries no further match attempt is counted.
+/// After 4,194,304 entries, no further match attempt is counted.
 ///
 /// # Errors
 ///
@@ -53,7 +53,7 @@ pub fn entries_of(
     Ok(entries)
 }
 
-/// Adds to `entries` the states that the match attempt from `entries.end` enters up to the byte
+/// Counts in `entries` the states that the match attempt from `entries.end` enters, up to the byte
 /// offset `end` of the input.
 fn add_attempt(entries: &mut Entries, states: &[&StateData], input: &[u8], end: usize)
     requires { end ≤ length input.now }
@@ -73,7 +73,7 @@ fn add_attempt(entries: &mut Entries, states: &[&StateData], input: &[u8], end: 
     }
 }
 
-/// Adds to `entries` the state to which the end of the input leads from `state`, if there is one.
+/// Counts in `entries` the state to which the end of the input leads from `state`, if there is one.
 fn add_end(entries: &mut Entries, states: &[&StateData], state: usize)
     ensures { entries.new.end ≡ entries.old.end }
 {
@@ -82,7 +82,7 @@ fn add_end(entries: &mut Entries, states: &[&StateData], state: usize)
     }
 }
 
-/// Adds an entry of `state` to its count, if there is such a state, and to the total.
+/// Adds one entry to the count of `state`, if the state exists, and to the total.
 fn add_entry(entries: &mut Entries, state: usize)
     ensures { entries.new.end ≡ entries.old.end }
 {
@@ -110,7 +110,7 @@ fn target_at_end(states: &[&StateData], state: usize) -> Option<usize> {
     Some(next.index())
 }
 
-/// Returns whether a set has a byte.
+/// Returns whether a set contains a byte.
 fn has_byte(class: &ByteClass, byte: u8) -> bool {
     class
         .ranges

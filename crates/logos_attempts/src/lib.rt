@@ -1,5 +1,6 @@
-//! Match attempts on an input: the match or the error around an offset, partial matches where no
-//! leaf matches, and counts of entered states. Called by `logos_replies` and `logos_html`.
+//! Finds the match or the error around an offset of an input, finds partial matches at an offset
+//! where no leaf matches, and counts the states that match attempts enter. Called by
+//! `logos_replies` and `logos_html`.
 
 #![tactic(auto)]
 

@@ -1,5 +1,5 @@
-//! Appends the lines of partial matches. Used by `logos_html` and `logos_replies`, where no leaf
-//! matches.
+//! Appends lines that show partial matches at an offset where no leaf matches. Called by
+//! `logos_html` and `logos_replies`.
 
 ghost use Rattle.std.specs.Prelude.{◌≡◌, ◌≤◌, ℕ, List, IfOk, IsTrue, OnErr, OnOk, length, string_bytes};
 ghost use Rattle.logos_attempts.specs.Views.{AddsLine, ArePartialLines, CodeFinds, Gains, IsPartialText, failed, partial_line, read_text, reader_text};
@@ -18,7 +18,7 @@ use std::alloc::{AllocError, Global};
 /// The maximum number of leaves that are shown.
 const SHOWN: usize = 8;
 
-/// A byte offset `from` of an input, with the leaves that may read bytes from there.
+/// A byte offset `from` of an input, and the leaves that may read bytes from this offset on.
 #[derive(Clone, Copy)]
 struct ReadStart<'a, 's> {
     leaves: &'a [Leaf<'s>],
@@ -27,13 +27,13 @@ struct ReadStart<'a, 's> {
 }
 
 /// Appends the lines of partial matches from the byte offset `from` of an input, if a lexer finds
-/// an error there. Each of at most eight leaves that read at least one byte has a line: the bytes
-/// that the leaf reads, and the bytes that can follow. Leaves that read furthest come first, and a
-/// line with the number of the other leaves comes last.
+/// an error at this offset. At most eight leaves that read at least one byte have a line. The line
+/// of a leaf shows the bytes that the leaf reads and the bytes that can follow. The leaves that
+/// read furthest come first, and a line with the number of omitted leaves comes last.
 ///
 /// # Errors
 ///
-/// Returns `AllocError` if memory runs out. Then nothing was appended.
+/// Returns `AllocError` if memory runs out. Nothing is appended in this case.
 pub fn push_partials(
     alloc: Global,
     page: &mut Page,
@@ -89,11 +89,11 @@ fn lines_of(
 }
 
 /// Appends the lines of the first `SHOWN` partial matches by rank, and a line with the number of
-/// the others.
+/// omitted partial matches.
 ///
 /// # Errors
 ///
-/// Returns `AllocError` if memory runs out. Then some lines may have been appended.
+/// Returns `AllocError` if memory runs out. Some lines may have been appended in this case.
 fn push_lines(
     alloc: Global,
     page: &mut Page,
@@ -111,8 +111,8 @@ fn push_lines(
     Ok(())
 }
 
-/// Returns a line with `count`, the number of partial matches that are not shown, or an empty text
-/// if it is 0.
+/// Returns a line with the number `count` of omitted partial matches, or an empty text if `count`
+/// is 0.
 fn others_text(alloc: Global, count: usize) -> Result<String, AllocError> {
     let mut page = Page::new(alloc, false);
     if count > 0 {
@@ -127,7 +127,7 @@ fn others_text(alloc: Global, count: usize) -> Result<String, AllocError> {
 ///
 /// # Errors
 ///
-/// Returns `AllocError` if memory runs out. Then nothing was appended.
+/// Returns `AllocError` if memory runs out. Nothing is appended in this case.
 fn push_ranked(
     alloc: Global,
     page: &mut Page,
@@ -163,16 +163,18 @@ fn rank_of(partials: &[PartialMatch], partial: &PartialMatch) -> usize {
     rank
 }
 
-/// Returns whether `one` ends after `other`, or ends where `other` does and is of an earlier leaf.
+/// Returns whether `one` comes before `other`. A partial match that ends later comes first. If both
+/// end at the same offset, the partial match of the earlier leaf comes first.
 fn is_before(one: &PartialMatch, other: &PartialMatch) -> bool {
     (one.end > other.end) | ((one.end == other.end) & (one.leaf < other.leaf))
 }
 
-/// Appends the line of a partial match, if it has at least one byte and ends in the input.
+/// Appends the line of a partial match that has at least one byte and ends within the input.
+/// Appends nothing for any other partial match.
 ///
 /// # Errors
 ///
-/// Returns `AllocError` if memory runs out. Then nothing was appended.
+/// Returns `AllocError` if memory runs out. Nothing is appended in this case.
 fn push_checked(
     alloc: Global,
     page: &mut Page,
@@ -193,8 +195,8 @@ fn push_checked(
     Ok(())
 }
 
-/// Appends the line of a partial match: its leaf, the bytes that the leaf reads, and `needs`, the
-/// text of the bytes that can follow.
+/// Appends the line of a partial match: its leaf, the bytes that the leaf reads, and the text
+/// `needs` of the bytes that can follow.
 fn push_line(page: &mut Page, start: ReadStart<'_, '_>, partial: &PartialMatch, needs: &str)
     ensures { Gains (partial_line start.entry.leaves.now start.entry.input.now start.entry.from
         partial.now.leaf partial.now.end needs.now) page.old page.new }
@@ -206,7 +208,7 @@ fn push_line(page: &mut Page, start: ReadStart<'_, '_>, partial: &PartialMatch, 
     page.push("\n");
 }
 
-/// Appends the number and the name of the leaf of a partial match.
+/// Appends the index and the name of the leaf of a partial match.
 fn push_reader(page: &mut Page, start: ReadStart<'_, '_>, leaf: usize)
     ensures { Gains (reader_text start.entry.leaves.now leaf) page.old page.new }
 {
@@ -216,8 +218,7 @@ fn push_reader(page: &mut Page, start: ReadStart<'_, '_>, leaf: usize)
     page.push(name_at(start.leaves, leaf));
 }
 
-/// Appends the bytes that a leaf reads up to the byte offset `end`, and the location of that
-/// offset.
+/// Appends the bytes that a leaf reads up to the byte offset `end`, and the location of `end`.
 fn push_read(page: &mut Page, start: ReadStart<'_, '_>, end: usize)
     ensures { Gains (read_text start.entry.input.now start.entry.from end) page.old page.new }
 {
@@ -227,7 +228,7 @@ fn push_read(page: &mut Page, start: ReadStart<'_, '_>, end: usize)
     push_location(page, location_in(start.input, end));
 }
 
-/// Returns the text of the bytes that continue a partial match, and of the bytes that complete it.
+/// Returns a text with the bytes that continue a partial match and the bytes that complete it.
 fn needs_of(alloc: Global, partial: &PartialMatch) -> Result<String, AllocError> {
     let mut page = Page::new(alloc, false);
     push_next(&mut page, partial);
@@ -235,8 +236,8 @@ fn needs_of(alloc: Global, partial: &PartialMatch) -> Result<String, AllocError>
     page.finish()
 }
 
-/// Appends the bytes that continue a partial match, and the end of the input if it completes a
-/// match or no byte continues the partial match.
+/// Appends the bytes that continue a partial match. Also appends the end of the input if the end of
+/// the input completes a match, or if no byte continues the partial match.
 fn push_next(page: &mut Page, partial: &PartialMatch) {
     if partial.next.ranges.is_empty() {
         page.push("the end of the input");
@@ -248,8 +249,8 @@ fn push_next(page: &mut Page, partial: &PartialMatch) {
     }
 }
 
-/// Appends the bytes that complete a partial match, unless there are none, or all bytes that
-/// continue the partial match complete it.
+/// Appends the bytes that complete a partial match. Appends nothing if there are none, or if they
+/// are all bytes that continue the partial match.
 fn push_last(page: &mut Page, partial: &PartialMatch) {
     if partial.last.ranges.is_empty() | (partial.last == partial.next) {
         return;

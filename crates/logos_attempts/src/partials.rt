@@ -1,5 +1,5 @@
-//! Finds partial matches: for each leaf the longest prefix of a match that an input has at an
-//! offset, and the bytes that continue the prefix. Used by `partial_lines`.
+//! Finds partial matches. A partial match is the longest prefix of a leaf's match that an input has
+//! at an offset, together with the bytes that continue the prefix. Called by `partial_lines`.
 
 use crate::classes::run_at;
 use logos_automaton::dfa::Dfa;
@@ -9,30 +9,30 @@ use logos_graph::graph::Graph;
 use std::alloc::{AllocError, Global};
 use std::ops::RangeInclusive;
 
-/// The longest prefix of a match of a leaf that an input has at an offset, of at least one byte.
+/// The longest nonempty prefix of a leaf's match that an input has at an offset.
 #[derive(Debug, Drop)]
 pub struct PartialMatch {
-    /// The number of the leaf.
+    /// The index of the leaf.
     pub leaf: usize,
-    /// The offset of the input at which the prefix ends, in bytes.
+    /// The byte offset of the input at which the prefix ends.
     pub end: usize,
-    /// The bytes that continue the prefix, or before which a match ends.
+    /// The bytes that continue the prefix, and the bytes before which a match ends.
     pub next: ByteClass,
-    /// The bytes after which a match ends, if the input ends there.
+    /// The bytes after which a match ends if the input ends after the byte.
     pub last: ByteClass,
-    /// Whether a match ends where the prefix ends, if the input ends there.
+    /// Whether a match ends at the end of the prefix if the input ends at this point.
     pub may_end: bool,
 }
 
-/// The states that an automaton enters on an input from an offset, and all states to which edges
-/// lead from these states.
+/// The states that an automaton enters on an input from an offset, and all states that edges reach
+/// from the entered states.
 #[derive(Drop)]
 struct Walk {
-    /// For each state the byte offset at which the longest prefix that leads to the state ends, or
+    /// For each state, the byte offset of the end of the longest prefix that leads to the state, or
     /// 0 if no prefix leads to it.
     ends: Vec<usize>,
-    /// The states that are entered, and all states to which edges lead from them, directly or over
-    /// other states.
+    /// The entered states, and all states to which edges lead from entered states, directly or
+    /// through other states.
     reached: Vec<usize>,
     /// The edges between the reached states. Equal edges for consecutive bytes are stored once.
     edges: Vec<Edge>,
@@ -45,8 +45,8 @@ struct Edge {
     target: usize,
 }
 
-/// Returns the partial match of each leaf that has a partial match from the byte offset `from` of
-/// an input, in the order of the leaves.
+/// Returns the partial match of each leaf that has one from the byte offset `from` of an input on,
+/// in the order of the leaves.
 ///
 /// # Errors
 ///
@@ -67,7 +67,7 @@ pub fn partial_matches(
 }
 
 /// Returns the states that an automaton enters on an input from the byte offset `from`, and all
-/// states to which edges lead from these states.
+/// states that edges reach from the entered states.
 fn walk_of(alloc: Global, dfa: &Dfa, input: &[u8], from: usize) -> Result<Walk, AllocError> {
     let ends = ends_of(alloc, dfa, input, from)?;
     let mut walk = Walk {
@@ -79,8 +79,8 @@ fn walk_of(alloc: Global, dfa: &Dfa, input: &[u8], from: usize) -> Result<Walk, 
     Ok(walk)
 }
 
-/// Returns for each state the byte offset at which the longest run of the input from `from` that
-/// leads to the state ends, or 0 if no run leads to it.
+/// Returns for each state the byte offset at which the longest run that begins at `from` and leads
+/// to the state ends. The offset is 0 if no run leads to the state.
 fn ends_of(alloc: Global, dfa: &Dfa, input: &[u8], from: usize) -> Result<Vec<usize>, AllocError> {
     let mut ends = vec![in alloc; 0; state_count(dfa)]?;
     let mut state = dfa.start().index();
@@ -91,8 +91,8 @@ fn ends_of(alloc: Global, dfa: &Dfa, input: &[u8], from: usize) -> Result<Vec<us
     Ok(ends)
 }
 
-/// Returns the state to which `byte` leads from `state`. Returns `state` unchanged if the automaton
-/// does not have it.
+/// Returns the state to which `byte` leads from `state`. Returns `state` if the automaton does not
+/// contain `state`.
 fn next_by(dfa: &Dfa, state: usize, byte: usize) -> usize {
     if state >= state_count(dfa) {
         return state;
@@ -100,7 +100,7 @@ fn next_by(dfa: &Dfa, state: usize, byte: usize) -> usize {
     row_at(dfa, state)[byte % 256] as usize
 }
 
-/// Returns whether `state` lists a leaf, or `false` if the automaton does not have the state.
+/// Returns whether `state` lists a leaf, or `false` if the automaton does not contain `state`.
 fn lists(dfa: &Dfa, state: usize, leaf: usize) -> bool {
     if state >= state_count(dfa) {
         return false;
@@ -109,7 +109,7 @@ fn lists(dfa: &Dfa, state: usize, leaf: usize) -> bool {
 }
 
 /// Returns whether the state to which the end of the input leads from `state` lists a leaf, or
-/// `false` if the automaton does not have `state`.
+/// `false` if the automaton does not contain `state`.
 fn lists_at_end(dfa: &Dfa, state: usize, leaf: usize) -> bool {
     if state >= state_count(dfa) {
         return false;
@@ -117,16 +117,16 @@ fn lists_at_end(dfa: &Dfa, state: usize, leaf: usize) -> bool {
     lists(dfa, end_at(dfa, state) as usize, leaf)
 }
 
-/// Sets the end of the longest prefix that leads to `state` to `end`. Changes nothing if there is
-/// no such state.
+/// Sets the end of the longest prefix that leads to `state` to `end`. Does nothing if the state
+/// does not exist.
 fn set_end(ends: &mut Vec<usize>, state: usize, end: usize) {
     if state < ends.len() {
         ends[state] = end;
     }
 }
 
-/// Adds to `walk` the states with an end, all states to which edges lead from them, and these
-/// edges.
+/// Adds to `walk` the states whose end is not 0, all states that edges reach from these states, and
+/// the edges between all of these states.
 fn add_reached(alloc: Global, dfa: &Dfa, walk: &mut Walk) -> Result<(), AllocError> {
     let count = walk.ends.len();
     let mut seen = vec![in alloc; false; count]?;
@@ -151,8 +151,8 @@ fn add_entered(
     Ok(())
 }
 
-/// Adds to `walk` the states to which bytes lead from the reached state at the index `number`, and
-/// the edges to them. Changes nothing if there is no such reached state.
+/// Adds to `walk` the edges from the reached state at the index `number`, and the states to which
+/// these edges lead. Does nothing if there is no such reached state.
 fn add_next(
     dfa: &Dfa,
     seen: &mut Vec<bool>,
@@ -169,8 +169,8 @@ fn add_next(
     Ok(())
 }
 
-/// Adds to `walk` the edge of `state` for `byte` and the target of the edge, unless the byte before
-/// leads to the target too.
+/// Adds to `walk` the edge of `state` for `byte` and the target of the edge, unless the next
+/// smaller byte leads to the same target.
 fn add_edge(
     dfa: &Dfa,
     seen: &mut Vec<bool>,
@@ -186,7 +186,8 @@ fn add_edge(
     add_state(seen, &mut walk.reached, target)
 }
 
-/// Appends `state` to `reached` and marks it in `seen`, if it exists and was not seen before.
+/// Appends `state` to `reached` and marks it in `seen`, if the state exists and was not seen
+/// before.
 fn add_state(
     seen: &mut Vec<bool>,
     reached: &mut Vec<usize>,
@@ -203,7 +204,7 @@ fn add_state(
     Ok(())
 }
 
-/// Appends to `found` the partial match of a leaf, if the leaf reads at least one byte.
+/// Appends the partial match of a leaf to `found`, if the leaf reads at least one byte.
 fn add_partial(
     alloc: Global,
     found: &mut Vec<PartialMatch>,
@@ -225,8 +226,8 @@ fn add_partial(
     Ok(found.push(partial)?)
 }
 
-/// Returns for each state whether it is open: whether it was reached, and a match of the leaf can
-/// end there or later.
+/// Returns for each state whether the state is open. A state is open if it was reached and a match
+/// of the leaf can end at the state or later.
 fn open_states(
     alloc: Global,
     dfa: &Dfa,
@@ -242,7 +243,7 @@ fn open_states(
 }
 
 /// Marks in `open` each reached state from which edges lead to an open state or to a state that
-/// lists the leaf, directly or over other states.
+/// lists the leaf, directly or through other states.
 fn open_before(dfa: &Dfa, walk: &Walk, leaf: usize, open: &mut Vec<bool>) {
     for _ in 0..walk.reached.len() {
         if !open_more(dfa, walk, leaf, open) {
@@ -252,7 +253,8 @@ fn open_before(dfa: &Dfa, walk: &Walk, leaf: usize, open: &mut Vec<bool>) {
 }
 
 /// Marks in `open` the states from which an edge leads to an open state or to a state that lists
-/// the leaf, in one pass from the last edge to the first. Returns whether a state was marked.
+/// the leaf. Passes once over the edges, from the last edge to the first. Returns whether a state
+/// was marked.
 fn open_more(dfa: &Dfa, walk: &Walk, leaf: usize, open: &mut Vec<bool>) -> bool {
     let count = walk.edges.len();
     let mut is_more = false;
@@ -264,7 +266,7 @@ fn open_more(dfa: &Dfa, walk: &Walk, leaf: usize, open: &mut Vec<bool>) -> bool 
     is_more
 }
 
-/// Marks `state` in `open` if `is_open` holds and there is such a state. Returns whether the state
+/// Marks `state` in `open` if `is_open` is `true` and the state exists. Returns whether the state
 /// was marked.
 fn open_if(open: &mut Vec<bool>, state: usize, is_open: bool) -> bool {
     if (state >= open.len()) | !is_open {
@@ -279,7 +281,7 @@ fn continues(dfa: &Dfa, leaf: usize, open: &[bool], state: usize) -> bool {
     is_set(open, state) | lists(dfa, state, leaf)
 }
 
-/// Returns the flag at `index`, or `false` past the end.
+/// Returns the flag at `index`, or `false` if the index is past the end.
 fn is_set(flags: &[bool], index: usize) -> bool {
     match flags.get(index) {
         Some(flag) => *flag,
@@ -287,8 +289,8 @@ fn is_set(flags: &[bool], index: usize) -> bool {
     }
 }
 
-/// Returns the byte offset at which the longest prefix that leads to `state` ends, or 0 if no
-/// prefix leads to it.
+/// Returns the byte offset of the end of the longest prefix that leads to `state`, or 0 if no
+/// prefix leads to `state`.
 fn end_of(walk: &Walk, state: usize) -> usize {
     match walk.ends.get(state) {
         Some(end) => *end,
@@ -306,8 +308,8 @@ fn furthest(walk: &Walk, open: &[bool]) -> Option<usize> {
     best
 }
 
-/// Returns `state` if it is open, and a longer prefix leads to it than to `best`, otherwise `best`.
-/// No prefix leads to `None`.
+/// Returns `state` if it is open and a longer prefix leads to it than to `best`, and `best`
+/// otherwise. If `best` is `None`, any prefix is longer.
 fn later(walk: &Walk, open: &[bool], best: Option<usize>, state: usize) -> Option<usize> {
     let least = match best {
         Some(best) => end_of(walk, best),
@@ -319,8 +321,8 @@ fn later(walk: &Walk, open: &[bool], best: Option<usize>, state: usize) -> Optio
     best
 }
 
-/// Returns for each byte whether it continues the prefix that leads to `state`, or a match of the
-/// leaf ends before it.
+/// Returns for each byte whether the byte continues the prefix that leads to `state`, or whether a
+/// match of the leaf ends before the byte.
 fn next_table(dfa: &Dfa, state: usize, leaf: usize, open: &[bool]) -> [bool; 256] {
     let mut table = [false; 256];
     for byte in 0..256 {
@@ -329,8 +331,8 @@ fn next_table(dfa: &Dfa, state: usize, leaf: usize, open: &[bool]) -> [bool; 256
     table
 }
 
-/// Returns for each byte whether a match of the leaf ends after it, if the byte follows the prefix
-/// that leads to `state` and ends the input.
+/// Returns for each byte whether a match of the leaf ends after the byte, if the byte follows the
+/// prefix that leads to `state` and the input ends after the byte.
 fn last_table(dfa: &Dfa, state: usize, leaf: usize) -> [bool; 256] {
     let mut table = [false; 256];
     for byte in 0..256 {

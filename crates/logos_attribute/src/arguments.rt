@@ -1,5 +1,5 @@
-//! Reads values in an attribute's argument, one after another. `AttributeParser::parsed` is part of
-//! the public interface; in this repository only tests call it.
+//! Reads the values in an attribute's argument one after another. `AttributeParser::parsed` is part
+//! of the public interface, but in this repository only tests call it.
 
 ghost use Rattle.std.specs.Prelude.{◌≡◌, ◌≢◌, List, Option, None, IfOk, OnOk, OnErr, MatchOption, option_map};
 ghost use Rattle.logos_attribute.specs.Imports.{result_ok, Fault, TokenList, none, run_span, tokens_of, type_tree, ReadsValue, literal_view, literal_report, up_to_comma, after_comma, pieces, IsReport};
@@ -14,17 +14,17 @@ use logos_type::TypeExpr;
 use logos_type_params::read_value;
 use std::alloc::Global;
 
-/// The mark of a value that could not be read: a fault was added to the list of faults.
+/// The error of a value that could not be read. The fault has been added to the list of faults.
 #[derive(Clone, Copy, Debug)]
 pub struct Reported;
 
-/// A type of values that can be read from a run of tokens.
+/// A type whose values can be read from a run of tokens.
 pub trait FromRun<'s>: Sized {
     /// The run is read as this value, and the first list of faults becomes the second.
     ghost is_read: { TokenList → Option Self → List Fault → List Fault → Type 0 };
 
-    /// Reads the whole of `run` as a value. If it is not such a value, reports the run and returns
-    /// `None`. An empty run that is read as a literal is not reported.
+    /// Reads the whole of `run` as a value. If `run` is not a value of this type, reports the run
+    /// and returns `None`. An empty run that is read as a literal is not reported.
     ///
     /// # Errors
     ///
@@ -39,8 +39,8 @@ pub trait FromRun<'s>: Sized {
         ensures unreported { OnErr result (errors.new ≡ errors.old) };
 }
 
-/// Reads a string or a byte string. Reports another literal as `NotText` at the literal, and
-/// another run that is not empty as `LiteralSyntax` at the run.
+/// Reads a string or a byte string. Reports any other literal as `NotText`, and any other run that
+/// is not empty as `LiteralSyntax`.
 impl<'s> FromRun<'s> for Literal<'s> {
     ghost is_read = { λ run read old new.
         IsReport (literal_report run) (option_map literal_view read) old new };
@@ -54,8 +54,8 @@ impl<'s> FromRun<'s> for Literal<'s> {
     }
 }
 
-/// Reads a type. Reports any other run, at the run: as `TypeSyntax`, or as `LimitTypeNesting` if
-/// more types are nested in it than the limit allows.
+/// Reads a type. Reports any other run as `TypeSyntax`, and a run in which too many types are
+/// nested as `LimitTypeNesting`.
 impl<'s> FromRun<'s> for TypeExpr<'s> {
     ghost is_read = { λ run read old new.
         ReadsValue run (run_span run) old new (option_map type_tree read) };
@@ -70,9 +70,9 @@ impl<'s> FromRun<'s> for TypeExpr<'s> {
 }
 
 impl<'t, 's> AttributeParser<'t, 's> {
-    /// Reads the tokens up to the next lone comma as one value, and removes these tokens and the
-    /// comma. Returns `None` if no token comes before the comma, and `Some(Err(Reported))` if the
-    /// tokens are not a value of the type `T`.
+    /// Reads the tokens up to the next lone comma as one value. Removes these tokens and the comma.
+    /// Returns `None` if no token precedes the comma, and `Some(Err(Reported))` if the tokens are
+    /// not a value of the type `T`.
     ///
     /// # Errors
     ///

@@ -11,7 +11,7 @@ use logos_token::token::{Ident, Span, TokenTree, Tokens};
 use logos_token::util::is_punct;
 use std::alloc::Global;
 
-/// A callback as views of its tokens.
+/// A callback, as views of its tokens.
 #[derive(Clone, Copy)]
 enum CallbackRun<'t, 's> {
     /// The tokens that name a function.
@@ -20,17 +20,18 @@ enum CallbackRun<'t, 's> {
     Inline(Ident<'s>, Tokens<'t, 's>),
 }
 
-/// The reason that a run is not a callback.
+/// The reason why a run is not a callback.
 #[derive(Clone, Copy)]
 enum CallbackFault {
-    /// It is empty, or it begins with `|` and has no single parameter between two `|`.
+    /// The run is empty, or it begins with `|` but not with a single parameter between two `|`.
     Closure,
     /// The closure has no body.
     Body,
 }
 
-/// Returns the closure with the parameter `arg` and the body `tokens`, without the delimiters if it
-/// begins with a group. Returns `Body` if there are no tokens.
+/// Returns the closure with the parameter `arg` and the body `tokens`. If the body begins with a
+/// group, the result contains only the tokens of the group, without its delimiters. Returns `Body`
+/// if there are no tokens.
 fn body_in<'t, 's>(
     arg: Ident<'s>,
     tokens: Tokens<'t, 's>,
@@ -45,8 +46,8 @@ fn body_in<'t, 's>(
     }
 }
 
-/// Returns the closure with the parameter `arg`, and the body after the `|` at the front of
-/// `tokens`. Returns `Body` if there are no tokens, and `Closure` if another token comes first.
+/// Returns the closure with the parameter `arg`. The body is after the `|` with which `tokens` must
+/// begin. Returns `Body` if there are no tokens, and `Closure` if the first token is not a `|`.
 fn bar_in<'t, 's>(
     arg: Ident<'s>,
     tokens: Tokens<'t, 's>,
@@ -61,8 +62,8 @@ fn bar_in<'t, 's>(
     }
 }
 
-/// Returns the closure whose parameter is at the front of `tokens`, or the reason that they are not
-/// one.
+/// Returns the closure in `tokens`, which begin with the parameter, or the reason why they are not
+/// a closure.
 fn parameter_in<'t, 's>(tokens: Tokens<'t, 's>) -> Result<CallbackRun<'t, 's>, CallbackFault>
     ensures { (span : Span) → read_view span result ≡ parameter_in span (tokens_of tokens.entry) }
 {
@@ -72,7 +73,7 @@ fn parameter_in<'t, 's>(tokens: Tokens<'t, 's>) -> Result<CallbackRun<'t, 's>, C
     }
 }
 
-/// Returns the callback that a run spells, or the reason that it is not one.
+/// Returns the callback that the run `tokens` spells, or the reason why the run is not a callback.
 fn callback_in<'t, 's>(tokens: Tokens<'t, 's>) -> Result<CallbackRun<'t, 's>, CallbackFault>
     ensures { read_view (run_span (tokens_of tokens.entry)) result
         ≡ callback_in (tokens_of tokens.entry) }
@@ -84,7 +85,7 @@ fn callback_in<'t, 's>(tokens: Tokens<'t, 's>) -> Result<CallbackRun<'t, 's>, Ca
     }
 }
 
-/// Returns the callback with copies of its tokens. `span` is the span of a closure.
+/// Copies the tokens of `run` into a callback. If the callback is a closure, its span is `span`.
 fn copied<'s>(alloc: Global, run: CallbackRun<'_, 's>, span: Span) -> Result<Callback<'s>, Memory>
     ensures { IfOk result (λ callback. callback_view callback ≡ run_view span run.entry) }
 {
@@ -119,7 +120,7 @@ fn report_body(errors: &mut Errors, span: Span) -> Result<(), Memory>
     Ok(())
 }
 
-/// Reports `cause`, the reason that the run at `span` is not a callback.
+/// Reports `cause`, the reason why the run at `span` is not a callback.
 fn report_callback(errors: &mut Errors, cause: CallbackFault, span: Span) -> Result<(), Memory>
     ensures ok { OnOk result (AddsFault (callback_fault span cause) errors.old errors.new) }
     ensures unreported { OnErr result (errors.new ≡ errors.old) }
@@ -131,8 +132,8 @@ fn report_callback(errors: &mut Errors, cause: CallbackFault, span: Span) -> Res
     Ok(())
 }
 
-/// Reads a callback that has no name before it. If the run is not a callback, reports that and
-/// returns `None`.
+/// Reads the run `tokens` as a callback without a name before it. If the run is not a callback,
+/// reports the reason and returns `None`.
 ///
 /// # Errors
 ///
@@ -156,8 +157,8 @@ pub fn read_callback<'s>(
     }
 }
 
-/// Reports a second callback at `span`, with its `name`, and the span of `former`, the first one.
-/// After an error the faults are unchanged.
+/// Reports the second callback at `span`, together with `name`, the name before it. Then reports
+/// the first callback, `former`. After an error, the faults are unchanged.
 fn report_again(
     errors: &mut Errors,
     name: Ident<'_>,
@@ -184,8 +185,8 @@ fn report_again(
     errors.append(found)
 }
 
-/// Reports `cause`, the reason that the value of `callback = ..` at `span` is not a callback. After
-/// an error the faults are unchanged.
+/// Reports `cause`, the reason why the run at `span` is not a callback. Then reports that the run
+/// is not a valid value of `callback = ..`. After an error, the faults are unchanged.
 fn report_no_callback(errors: &mut Errors, cause: CallbackFault, span: Span) -> Result<(), Memory>
     ensures ok { OnOk result (errors.new
         ≡ errors.old ++ callback_fault span cause ∷ callback_no_value span ∷ []) }
@@ -197,9 +198,9 @@ fn report_no_callback(errors: &mut Errors, cause: CallbackFault, span: Span) -> 
     errors.append(found)
 }
 
-/// Sets `callback` to `tokens`, the value of `callback = ..`, where `name` is the identifier
-/// `callback`. Reports and replaces a former callback. If the run is not a callback, reports that
-/// and sets nothing.
+/// Sets `callback` to the callback that `tokens` spell. `tokens` are the value of `callback = ..`,
+/// and `name` is the identifier `callback`. If a callback is already set, reports and replaces it.
+/// If the run is not a callback, reports the reason and sets nothing.
 ///
 /// # Errors
 ///

@@ -10,7 +10,7 @@ use logos_token::token::{Ident, TokenTree, Tokens, print};
 use logos_token::util::{is_punct, push_escaped};
 use std::alloc::Global;
 
-/// Returns the printed text of the first tree of `tokens`, where `rest` has the tokens after
+/// Returns the printed text of `tree`, the first tree of `tokens`. `rest` contains the tokens after
 /// `tree`.
 fn first_printed(
     alloc: Global,
@@ -25,8 +25,8 @@ fn first_printed(
     Ok(text)
 }
 
-/// Reports `tree`, the first tree of `tokens`, which is not the comma that is expected there.
-/// `rest` has the tokens after it.
+/// Reports that `tree`, the first tree of `tokens`, is not the expected comma. `rest` contains the
+/// tokens after `tree`.
 fn report_no_comma(
     tokens: Tokens<'_, '_>,
     tree: TokenTree<'_, '_>,
@@ -45,7 +45,7 @@ fn report_no_comma(
     Ok(())
 }
 
-/// Reports `flag`, which is `ascii_case`.
+/// Reports that the flag `flag`, which is `ascii_case`, is no longer supported.
 fn report_ascii(flag: Ident<'_>, errors: &mut Errors) -> Result<(), Memory>
     ensures { OnOk result
         (AddsFault (ignore_ascii (ident_slice flag.entry)) errors.old errors.new) }
@@ -58,7 +58,7 @@ fn report_ascii(flag: Ident<'_>, errors: &mut Errors) -> Result<(), Memory>
     )
 }
 
-/// Reports `flag`, which is not `case`.
+/// Reports that `flag` is not the flag `case`.
 fn report_other(flag: Ident<'_>, errors: &mut Errors) -> Result<(), Memory>
     ensures { OnOk result (AddsFault (other_flag (ident_slice flag.entry)) errors.old errors.new) }
 {
@@ -74,7 +74,7 @@ fn report_other(flag: Ident<'_>, errors: &mut Errors) -> Result<(), Memory>
     )
 }
 
-/// Reports that `name`, the identifier `ignore`, has no flag.
+/// Reports that `name`, the identifier `ignore`, has no valid flag.
 fn report_none(name: Ident<'_>, errors: &mut Errors) -> Result<(), Memory>
     ensures { OnOk result
         (AddsFault (ignore_empty (ident_slice name.entry)) errors.old errors.new) }
@@ -87,8 +87,8 @@ fn report_none(name: Ident<'_>, errors: &mut Errors) -> Result<(), Memory>
     )
 }
 
-/// Returns the tokens after the comma that follows `case`. Returns `None` if there is no comma, and
-/// reports the token that comes instead, if there is one.
+/// Returns the tokens after the comma that follows the flag `case`. Returns `None` if there is no
+/// comma. If another token follows `case`, reports this token.
 fn after_flag<'t, 's>(
     tokens: Tokens<'t, 's>,
     errors: &mut Errors,
@@ -106,9 +106,9 @@ fn after_flag<'t, 's>(
     Ok(None)
 }
 
-/// Returns the tokens after `case` if `case` comes first. Otherwise returns `None`, which ends the
-/// reading of flags, and reports the fault, if there is one. No tokens are a fault if no flag was
-/// found before.
+/// Returns the tokens after the flag `case` if `tokens` begin with it. Otherwise reports the fault,
+/// if there is one, and returns `None`, which ends the reading of flags. The absence of tokens is a
+/// fault unless `found` is `true`, that is, unless an earlier flag was found.
 fn read_case<'t, 's>(
     name: Ident<'s>,
     found: bool,
@@ -141,7 +141,7 @@ fn read_case<'t, 's>(
 }
 
 /// Sets `ignore_case` if `tokens` begin with the flag `case`, and reports the first fault among the
-/// flags. After an error `ignore_case` may have been set.
+/// flags. After an error, `ignore_case` may already be set.
 fn set_flags<'s>(
     ignore_case: &mut bool,
     name: Ident<'s>,
@@ -165,9 +165,9 @@ fn set_flags<'s>(
     Ok(())
 }
 
-/// Sets `ignore_case` if `tokens`, the group after `ignore`, begin with the flag `case`, and
-/// reports the first fault among the flags. `name` is the identifier `ignore`. A flag before a
-/// fault remains set.
+/// Sets `ignore_case` if `tokens` begin with the flag `case`, and reports the first fault among the
+/// flags. `tokens` are the group after `ignore`, and `name` is the identifier `ignore`. A flag
+/// before a fault remains set.
 ///
 /// # Errors
 ///

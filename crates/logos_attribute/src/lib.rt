@@ -1,5 +1,5 @@
-//! Reads the arguments of attributes on an enum and its variants: their pieces, and the values of
-//! these. `logos_definition` calls the readers.
+//! Splits the arguments of attributes on an enum and its variants into pieces, and reads the values
+//! of the pieces. `logos_definition` calls the readers.
 
 #![tactic(auto)]
 

@@ -12,7 +12,7 @@ use logos_token::token;
 use logos_token::token::{TokenTree, Tokens};
 use std::alloc::Global;
 
-/// Reports a literal that is neither a string nor a byte string.
+/// Reports that the literal `token` is neither a string nor a byte string.
 fn report_not_text(token: token::Literal<'_>, errors: &mut Errors) -> Result<(), Memory>
     ensures ok { OnOk result
         (AddsFault (not_text (literal_slice token.entry)) errors.old errors.new) }
@@ -52,8 +52,8 @@ fn text_in<'s>(alloc: Global, token: token::Literal<'s>) -> Result<Option<Litera
     Ok(Literal::read(alloc, &token)?)
 }
 
-/// Reads `token`, a literal, as a string or byte string. If it is neither, reports that and returns
-/// `None`.
+/// Reads the literal `token` as a string or byte string. If `token` is neither, reports it and
+/// returns `None`.
 ///
 /// # Errors
 ///
@@ -76,7 +76,7 @@ pub fn read_text<'s>(
 }
 
 /// Reads the run `tokens` as a string or byte string. Returns `None` for any other run, and reports
-/// it unless it is empty.
+/// the run unless it is empty.
 ///
 /// # Errors
 ///

@@ -1,5 +1,5 @@
-//! Splits the argument of an attribute into pieces: views of its tokens, which copy nothing.
-//! `logos_definition` reads the pieces one by one.
+//! Splits the argument of an attribute into pieces. The pieces are views of the argument's tokens,
+//! so nothing is copied. `logos_definition` reads the pieces one by one.
 
 ghost use Rattle.std.specs.Prelude.{◌≡◌, MatchOption, [], ◌≢◌};
 ghost use Rattle.logos_attribute.specs.Views.{Token, TokenList, none, also, append, rest_of, tokens_of, tree_of, ident_slice, literal_slice, up_to_comma, after_comma, pieces, after_name, after_group, after_keyword, through_comma, without_comma, rest_after_name, rest_after_piece, rest_after_group, name_token, named, assigned, beside, keyed, unnamed, unexpected, first_run, after_mark, item_count, Cuts, IsSplit, piece_of, pieces_left, rest_after, YieldsNext};
@@ -10,39 +10,39 @@ use logos_token::util::is_punct;
 /// The tokens of a piece after its name.
 #[derive(Clone, Copy)]
 pub enum NestedValue<'t, 's> {
-    /// `name = ..`, with the tokens after the `=`.
+    /// The tokens after the `=` of `name = ..`.
     Assign(Tokens<'t, 's>),
-    /// `name "literal"`, with the literal.
+    /// The literal of `name "literal"`.
     Literal(Literal<'s>),
-    /// `name(..)`, with the tokens inside the delimiters.
+    /// The tokens inside the delimiters of `name(..)`.
     Group(Tokens<'t, 's>),
-    /// `name ident = ..` or `name ident, ..`, with the second name and the tokens after the `=` or
-    /// the comma, up to the next lone comma.
+    /// The second name of `name ident = ..`, `name ident, ..` or `name ident`, and the tokens after
+    /// the `=` or the comma, up to the next lone comma.
     KeywordAssign(Ident<'s>, Tokens<'t, 's>),
 }
 
-/// A piece of an attribute's argument: a view, which copies nothing.
+/// A piece of an attribute's argument, as a view of its tokens.
 #[derive(Clone, Copy)]
 pub enum Nested<'t, 's> {
-    /// Tokens that do not begin with a name, a name alone, or a name before other punctuation than
-    /// `=`.
+    /// Tokens that do not begin with a name, a name alone, or a name that is followed by a
+    /// documentation comment or by punctuation other than `=`.
     Unnamed(Tokens<'t, 's>),
     /// A name and its value.
     Named(Ident<'s>, NestedValue<'t, 's>),
-    /// Tokens that do not fit after a group or after two names.
+    /// Tokens that are not expected after a group or after two names.
     Unexpected(Tokens<'t, 's>),
 }
 
-/// A parser that splits an attribute's argument into pieces at each lone comma: a comma that is not
-/// directly followed by punctuation.
+/// A parser that splits an attribute's argument into pieces at each lone comma. A comma is lone if
+/// it is not directly followed by punctuation.
 #[derive(Clone, Copy)]
 pub struct AttributeParser<'t, 's> {
     rest: Tokens<'t, 's>,
-    /// Whether the last piece was a name with a group, and no comma has followed that group yet.
+    /// Whether the last piece was a name with a group, and no comma has been read after the group.
     after_group: bool,
 }
 
-/// Returns the first tree of `tokens` and the trees after it, or `None` if there are none.
+/// Returns the first tree of `tokens` and the trees after it, or `None` if `tokens` is empty.
 pub fn split<'t, 's>(tokens: Tokens<'t, 's>) -> Option<(TokenTree<'t, 's>, Tokens<'t, 's>)>
     ensures { MatchOption result
         (tokens_of tokens.entry ≡ none)
@@ -52,8 +52,7 @@ pub fn split<'t, 's>(tokens: Tokens<'t, 's>) -> Option<(TokenTree<'t, 's>, Token
     Some((tree, tokens.rest()))
 }
 
-/// Returns the rest of `tokens` from the first lone comma on, or an empty run if there is no lone
-/// comma.
+/// Returns the tokens from the first lone comma on, or an empty run if there is no lone comma.
 fn comma_in<'t, 's>(tokens: Tokens<'t, 's>) -> Tokens<'t, 's>
     ensures parts { tokens_of tokens.entry
         ≡ append (up_to_comma (tokens_of tokens.entry)) (tokens_of result) }
@@ -69,7 +68,8 @@ fn comma_in<'t, 's>(tokens: Tokens<'t, 's>) -> Tokens<'t, 's>
     rest
 }
 
-/// Returns the run up to the first lone comma, and the tokens after that comma, if there are any.
+/// Returns the run up to the first lone comma, and the tokens after the comma. If there is no lone
+/// comma, returns all tokens and an empty run.
 fn run_at<'t, 's>(tokens: Tokens<'t, 's>) -> (Tokens<'t, 's>, Tokens<'t, 's>)
     ensures run { tokens_of result.0 ≡ up_to_comma (tokens_of tokens.entry) }
     ensures after { tokens_of result.1 ≡ after_comma (tokens_of tokens.entry) }
@@ -78,8 +78,8 @@ fn run_at<'t, 's>(tokens: Tokens<'t, 's>) -> (Tokens<'t, 's>, Tokens<'t, 's>)
     (tokens.before(end), end.rest())
 }
 
-/// Returns the run that consists of the first tree, even if it is a comma, and the trees up to the
-/// next lone comma. Also returns the tokens after that comma.
+/// Returns the run of the first tree and the trees up to the next lone comma, and the tokens after
+/// this comma. The first tree belongs to the run even if it is a comma.
 fn run_from<'t, 's>(tokens: Tokens<'t, 's>) -> (Tokens<'t, 's>, Tokens<'t, 's>)
     ensures run { tokens_of result.0 ≡ first_run (tokens_of tokens.entry) }
     ensures after { tokens_of result.1 ≡ after_comma (rest_of (tokens_of tokens.entry)) }
@@ -88,7 +88,7 @@ fn run_from<'t, 's>(tokens: Tokens<'t, 's>) -> (Tokens<'t, 's>, Tokens<'t, 's>)
     (tokens.before(end), end.rest())
 }
 
-/// Returns a parser of the pieces of `tokens`.
+/// Returns a parser for the pieces of `tokens`.
 fn begin<'t, 's>(tokens: Tokens<'t, 's>) -> AttributeParser<'t, 's>
     ensures pieces { pieces_left result ≡ pieces (tokens_of tokens.entry) }
     ensures rest { result.rest ≡ tokens.entry }
@@ -99,8 +99,8 @@ fn begin<'t, 's>(tokens: Tokens<'t, 's>) -> AttributeParser<'t, 's>
     }
 }
 
-/// Reads `tokens`, which follow `name =`. Returns the piece, and a parser of the tokens after its
-/// comma.
+/// Reads the value at the front of `tokens`, which follow `name =`. Returns the piece, and a parser
+/// for the tokens after the comma that ends the value.
 fn assigned_at<'t, 's>(
     name: Ident<'s>,
     tokens: Tokens<'t, 's>,
@@ -115,8 +115,8 @@ fn assigned_at<'t, 's>(
     (Nested::Named(name, NestedValue::Assign(run)), begin(rest))
 }
 
-/// Reads `tokens`, the value after two names. Returns the piece, and a parser of the tokens after
-/// its comma.
+/// Reads the value at the front of `tokens`, which follow the names `keyword` and `name`. Returns
+/// the piece, and a parser for the tokens after the comma that ends the value.
 fn keyed_at<'t, 's>(
     keyword: Ident<'s>,
     name: Ident<'s>,
@@ -136,8 +136,8 @@ fn keyed_at<'t, 's>(
     )
 }
 
-/// Reads a name and a literal, and skips `tokens` up to the comma. Returns the piece, and a parser
-/// of the tokens after that comma.
+/// Returns the piece that consists of `name` and `literal`, and a parser for the tokens after the
+/// next lone comma in `tokens`. Skips the tokens before the comma.
 fn beside_at<'t, 's>(
     name: Ident<'s>,
     literal: Literal<'s>,
@@ -157,8 +157,8 @@ fn beside_at<'t, 's>(
     )
 }
 
-/// Reads tokens that belong to no piece, up to the comma. Returns them, and a parser of the tokens
-/// after that comma.
+/// Reads unexpected tokens up to the next lone comma. Returns the tokens as a piece, and a parser
+/// for the tokens after the comma.
 fn unexpected_at<'t, 's>(tokens: Tokens<'t, 's>) -> (Nested<'t, 's>, AttributeParser<'t, 's>)
     ensures { Cuts (through_comma (λ run. unexpected run) (tokens_of tokens.entry))
         (after_comma (tokens_of tokens.entry)) result.0 result.1 }
@@ -167,8 +167,8 @@ fn unexpected_at<'t, 's>(tokens: Tokens<'t, 's>) -> (Nested<'t, 's>, AttributePa
     (Nested::Unexpected(run), begin(rest))
 }
 
-/// Reads the first tree of any kind, and the tokens up to the comma. Returns the piece, and a
-/// parser of the tokens after that comma.
+/// Reads a tree of any form, and the tokens after it up to the next lone comma. Returns these
+/// tokens as a piece, and a parser for the tokens after the comma.
 fn unnamed_at<'t, 's>(tokens: Tokens<'t, 's>) -> (Nested<'t, 's>, AttributeParser<'t, 's>)
     ensures { (first : Token) (rest : TokenList) → tokens_of tokens.entry ≡ also first rest →
         Cuts (through_comma (λ run. unnamed (also first run)) rest) (after_comma rest)
@@ -178,8 +178,8 @@ fn unnamed_at<'t, 's>(tokens: Tokens<'t, 's>) -> (Nested<'t, 's>, AttributeParse
     (Nested::Unnamed(run), begin(rest))
 }
 
-/// Reads `tokens`, which follow the names `keyword` and `name`. Returns the piece, and a parser of
-/// the tokens after it.
+/// Reads `tokens`, which follow the names `keyword` and `name`. Returns the piece, and a parser for
+/// the tokens after the piece.
 fn keyword_at<'t, 's>(
     keyword: Ident<'s>,
     name: Ident<'s>,
@@ -203,8 +203,9 @@ fn keyword_at<'t, 's>(
     unexpected_at(tokens)
 }
 
-/// Reads the tokens after `name`, the name at the start of `whole`: `tree`, which is not a name,
-/// literal or group, and `tokens`. Returns the piece, and a parser of the tokens after it.
+/// Reads the piece at the front of `whole`, which consists of `name`, `tree` and `tokens`. `tree`
+/// is not a name, a literal or a group. Returns the piece, and a parser for the tokens after the
+/// piece.
 fn mark_at<'t, 's>(
     whole: Tokens<'t, 's>,
     name: Ident<'s>,
@@ -224,8 +225,8 @@ fn mark_at<'t, 's>(
     unnamed_at(whole)
 }
 
-/// Returns a parser of the pieces in `tokens`, which follow a name and a group. A comma at the
-/// front is removed at once, so that `AttributeParser::run` begins after it.
+/// Returns a parser for the pieces in `tokens`, which follow a name and a group. Removes a comma at
+/// the front at once, so that `AttributeParser::run` begins after the comma.
 fn end_group<'t, 's>(tokens: Tokens<'t, 's>) -> AttributeParser<'t, 's>
     ensures pieces { pieces_left result ≡ after_group (tokens_of tokens.entry) }
     ensures rest { tokens_of result.rest ≡ without_comma (tokens_of tokens.entry) }
@@ -239,8 +240,8 @@ fn end_group<'t, 's>(tokens: Tokens<'t, 's>) -> AttributeParser<'t, 's>
     }
 }
 
-/// Reads `tokens`, which follow `name`, the name at the start of `whole`. Returns the piece, and a
-/// parser of the tokens after it.
+/// Reads the piece at the front of `whole`, which consists of `name` and `tokens`. Returns the
+/// piece, and a parser for the tokens after the piece.
 fn name_at<'t, 's>(
     whole: Tokens<'t, 's>,
     name: Ident<'s>,
@@ -270,8 +271,8 @@ fn name_at<'t, 's>(
     }
 }
 
-/// Returns the piece at the front, and a parser of the tokens after it. Returns `None` if there are
-/// no tokens.
+/// Returns the piece at the front of `tokens`, and a parser for the tokens after the piece. Returns
+/// `None` if `tokens` is empty.
 fn piece_at<'t, 's>(tokens: Tokens<'t, 's>) -> Option<(Nested<'t, 's>, AttributeParser<'t, 's>)>
     ensures { MatchOption result
         (pieces (tokens_of tokens.entry) ≡ [])
@@ -289,8 +290,8 @@ fn piece_at<'t, 's>(tokens: Tokens<'t, 's>) -> Option<(Nested<'t, 's>, Attribute
     }
 }
 
-/// Returns the piece that follows a name and a group, and a parser of the tokens after it. Returns
-/// `None` if no piece follows.
+/// Returns the piece that follows a name and a group, and a parser for the tokens after the piece.
+/// Returns `None` if no piece follows.
 fn piece_after_group<'t, 's>(
     tokens: Tokens<'t, 's>,
 ) -> Option<(Nested<'t, 's>, AttributeParser<'t, 's>)>
@@ -308,7 +309,7 @@ fn piece_after_group<'t, 's>(
 }
 
 impl<'t, 's> AttributeParser<'t, 's> {
-    /// Returns a parser of the pieces of `tokens`.
+    /// Returns a parser for the pieces of `tokens`.
     pub fn new(tokens: Tokens<'t, 's>) -> AttributeParser<'t, 's>
         ensures pieces { pieces_left result ≡ pieces (tokens_of tokens.entry) }
         ensures rest { tokens_of result.rest ≡ tokens_of tokens.entry }
@@ -316,8 +317,8 @@ impl<'t, 's> AttributeParser<'t, 's> {
         begin(tokens)
     }
 
-    /// Removes and returns the tokens up to the next lone comma, and removes that comma. Returns
-    /// `None` if no token comes before the comma, which is still removed.
+    /// Removes and returns the tokens up to the next lone comma, and removes the comma. Returns
+    /// `None` if no token precedes the comma. The comma is removed in this case too.
     pub fn run(&mut self) -> Option<Tokens<'t, 's>>
         ensures run { MatchOption result
             (up_to_comma (tokens_of self.old.rest) ≡ none)
@@ -334,7 +335,7 @@ impl<'t, 's> AttributeParser<'t, 's> {
         Some(run)
     }
 
-    /// Returns the next piece, and a parser of the pieces after it. Returns `None` if no piece is
+    /// Returns the next piece, and a parser for the pieces after it. Returns `None` if no piece is
     /// left.
     fn read(self) -> Option<(Nested<'t, 's>, AttributeParser<'t, 's>)>
         ensures { MatchOption result
@@ -355,8 +356,9 @@ impl<'t, 's> Iterator for AttributeParser<'t, 's> {
 
     ghost remaining = { item_count pieces_left };
 
-    /// Returns the next piece and removes it with the comma that ends it, so that `run` and
-    /// `parsed` continue after that comma. If the result is `None`, nothing has changed.
+    /// Removes and returns the next piece. Also removes the comma that ends the piece, so that
+    /// `run` and `parsed` continue after the comma. If the result is `None`, the parser is
+    /// unchanged.
     fn next(&mut self) -> Option<Nested<'t, 's>> {
         let (nested, rest) = self.read()?;
         *self = rest;

@@ -1,4 +1,4 @@
-//! Reports faults whose messages contain texts of the source. Each function adds one fault. The
+//! Reports faults whose messages contain texts of the source. Each function reports one fault. The
 //! readers of attributes and of subpatterns call these functions.
 
 ghost use Rattle.std.specs.Prelude.{◌≡◌, OnOk, OnErr};
@@ -8,7 +8,7 @@ use logos_token::error::{Errors, FaultCode, Memory};
 use logos_token::token::{Ident, Tokens};
 use logos_type_params::reports::report_about;
 
-/// Reports a fault of `name` at its span. The message is `before`, the name and `after`.
+/// Reports a fault at the span of `name`. The message consists of `before`, the name and `after`.
 ///
 /// # Errors
 ///

@@ -7,7 +7,7 @@ ghost use Rattle.logos_attribute.specs.Imports.{all_ascii_digits, tokens_of, dec
 use crate::nested::split;
 use logos_token::token::{TokenTree, Tokens};
 
-/// Returns whether each of `bytes` is an ASCII digit.
+/// Returns whether all `bytes` are ASCII digits.
 fn all_digits(bytes: &[u8]) -> bool
     ensures { result ≡ all_ascii_digits bytes.now }
 {
@@ -19,8 +19,8 @@ fn all_digits(bytes: &[u8]) -> bool
     true
 }
 
-/// Returns the number that `text` spells in decimal digits, or `None` if it has no byte, a byte is
-/// not a digit, or the number does not fit `usize`.
+/// Returns the number that `text` spells in decimal digits. Returns `None` if `text` is empty or
+/// contains a byte that is not a digit, or if the number does not fit `usize`.
 #[tactic(auto, using(crate::proofs::NumberLemmas::decimal_parsed))]
 fn decimal(text: &str) -> Option<usize>
     ensures { result ≡ decimal text.now }
@@ -31,8 +31,8 @@ fn decimal(text: &str) -> Option<usize>
     text.parse::<usize>().ok()
 }
 
-/// Returns the number that a run spells: one literal of decimal digits, without a suffix, whose
-/// value fits `usize`. Returns `None` for any other run.
+/// Returns the number that the run `tokens` spells. The run must consist of one literal of decimal
+/// digits, without a suffix, whose value fits `usize`. Returns `None` for any other run.
 pub fn number_in(tokens: Tokens<'_, '_>) -> Option<usize>
     ensures { result ≡ number_in (tokens_of tokens.entry) }
 {
@@ -42,7 +42,7 @@ pub fn number_in(tokens: Tokens<'_, '_>) -> Option<usize>
     }
 }
 
-/// Returns the boolean that `text` spells, or `None` if it is neither `true` nor `false`.
+/// Returns the boolean that `text` spells, or `None` if `text` is neither `true` nor `false`.
 fn boolean_named(text: &str) -> Option<bool>
     ensures { result ≡ boolean_named text.now }
 {
@@ -55,8 +55,8 @@ fn boolean_named(text: &str) -> Option<bool>
     None
 }
 
-/// Returns the boolean that a run spells: the identifier `true` or `false` alone. Returns `None`
-/// for any other run.
+/// Returns the boolean that the run `tokens` spells. The run must consist of the identifier `true`
+/// or `false` alone. Returns `None` for any other run.
 pub fn boolean_in(tokens: Tokens<'_, '_>) -> Option<bool>
     ensures { result ≡ boolean_in (tokens_of tokens.entry) }
 {

@@ -1,5 +1,5 @@
-//! Finds the bytes whose steps on a tree differ from those of the byte before, in one pass over the
-//! tree from the positions that read the last byte. `byte_equivalence` and
+//! Finds the bytes whose steps on a tree differ from the steps of the next smaller byte. One pass
+//! over the tree begins at the positions that read the last byte. `byte_equivalence` and
 //! `tree_steps::construction` call `mark_tree`.
 
 ghost use Rattle.std.specs.Prelude.{◌≡◌, ◌<◌, ◌^◌, ◌+◌, ◌*◌, ◌==◌, ℕ, IsTrue, IsFalse, length, slice_index};
@@ -14,7 +14,8 @@ use logos_positions::positions::set::{
     OwnPositions, alike_copies, any_mark, has_mark, next_copy, own_positions,
 };
 
-/// Returns whether the rows differ, where `None` is no row.
+/// Returns whether the row numbers `row` and `other` differ. `None` denotes the absence of a row
+/// and equals only `None`.
 fn differ(row: Option<usize>, other: Option<usize>) -> bool
     ensures { IsFalse result → row ≡ other }
 {
@@ -26,7 +27,7 @@ fn differ(row: Option<usize>, other: Option<usize>) -> bool
 }
 
 /// Marks each byte from 1 on whose transition from the start of a class of characters differs from
-/// that of the byte before it.
+/// that of the next smaller byte.
 fn mark_first(table: &CharacterTable, marked: &mut [bool; 256])
     ensures { SetsFlags (OpensAlike (core.character (reader_of table.now))) marked.old marked.new }
 {
@@ -37,7 +38,7 @@ fn mark_first(table: &CharacterTable, marked: &mut [bool; 256])
 }
 
 /// Marks each byte whose transition from the row `row` of a class of characters differs from that
-/// of the byte before it.
+/// of the next smaller byte.
 fn mark_row(table: &CharacterTable, row: usize, marked: &mut [bool; 256])
     requires { row < table.now.rows }
     ensures { SetsFlags (λ x y. (reader_of table.now).follow row x ≡ (reader_of table.now).follow row y)
@@ -50,8 +51,8 @@ fn mark_row(table: &CharacterTable, row: usize, marked: &mut [bool; 256])
     }
 }
 
-/// Marks each byte for which, from a row of a class of characters that is in `marks`, the
-/// transition differs from that of the byte before. The positions of the class begin at `base`.
+/// Marks each byte whose transition from at least one of the rows in `marks` differs from that of
+/// the next smaller byte. The rows belong to a class of characters whose positions begin at `base`.
 fn mark_rows(table: &CharacterTable, marks: &[usize], base: usize, marked: &mut [bool; 256])
     requires rising { IsRising marks.now }
     requires fits { base + table.now.rows < 2 ^ 64 }
@@ -71,7 +72,7 @@ fn mark_rows(table: &CharacterTable, marks: &[usize], base: usize, marked: &mut 
     }
 }
 
-/// Marks `byte` and the byte after it, if there is one.
+/// Marks `byte` and the next larger byte, if there is one.
 fn mark_byte(byte: u8, marked: &mut [bool; 256])
     ensures { SetsFlags (OpensAlike (byte_in (λ x. x == byte))) marked.old marked.new }
 {
@@ -79,8 +80,8 @@ fn mark_byte(byte: u8, marked: &mut [bool; 256])
     mark_range(Range::new(value, value), marked);
 }
 
-/// Marks the byte of the literal `text` at the index `at` and the byte after it, or nothing if
-/// there is no such index.
+/// Marks the byte at the index `at` of the literal `text`, and the next larger byte. Marks nothing
+/// if the literal has no such index.
 fn mark_at(text: &[u8], at: usize, marked: &mut [bool; 256])
     ensures { SetsFlags (λ x y. at < length text.now →
         (x == slice_index text.now at) ≡ (y == slice_index text.now at)) marked.old marked.new }
@@ -91,7 +92,7 @@ fn mark_at(text: &[u8], at: usize, marked: &mut [bool; 256])
 }
 
 /// Marks each byte whose transition from the start of the literal `text` differs from that of the
-/// byte before it. Returns whether the literal is empty.
+/// next smaller byte. Returns whether the literal is empty.
 fn open_literal(text: &[u8], marked: &mut [bool; 256]) -> bool
     ensures marks { SetsFlags (OpensAlike (spelled text.now)) marked.old marked.new }
     ensures passes { MayPass (spelled text.now) → IsTrue result }
@@ -100,8 +101,8 @@ fn open_literal(text: &[u8], marked: &mut [bool; 256]) -> bool
     text.is_empty()
 }
 
-/// Marks each byte whose transitions from the start of `node` differ from those of the byte before
-/// it. Returns whether `node` matches the empty string if look-around assertions allow it.
+/// Marks each byte whose transitions from the start of `node` differ from those of the next smaller
+/// byte. Returns whether `node` matches the empty string if all look-around assertions hold.
 #[cycle(open)]
 fn open(node: &Node, marked: &mut [bool; 256]) -> bool
     ensures marks { SetsFlags (OpensAlike (core_of node.now)) marked.old marked.new }
@@ -137,8 +138,8 @@ fn open(node: &Node, marked: &mut [bool; 256]) -> bool
     }
 }
 
-/// Marks as `open` does if the tree is entered, and returns the result of `open`. Otherwise marks
-/// nothing and returns `false`.
+/// Calls `open` on `node` and returns the result if `entered` is `true`. Otherwise marks nothing
+/// and returns `false`.
 fn open_if(entered: bool, node: &Node, marked: &mut [bool; 256]) -> bool
     ensures marks { SetsFlags (λ x y. IsTrue entered → OpensAlike (core_of node.now) x y)
         marked.old marked.new }
@@ -151,8 +152,8 @@ fn open_if(entered: bool, node: &Node, marked: &mut [bool; 256]) -> bool
 }
 
 /// Marks each byte whose transitions from the positions of the literal `text` in `marks` differ
-/// from those of the byte before it. The positions of the literal begin at `base`. Returns whether
-/// its last position is in `marks`.
+/// from those of the next smaller byte. The positions of the literal begin at `base`. Returns
+/// whether the last position of the literal is in `marks`.
 fn follow_literal(text: &[u8], marks: &[usize], base: usize, marked: &mut [bool; 256]) -> bool
     requires rising { IsRising marks.now }
     requires fits { base + length text.now < 2 ^ 64 }
@@ -178,8 +179,8 @@ fn follow_literal(text: &[u8], marks: &[usize], base: usize, marked: &mut [bool;
 }
 
 /// Marks each byte whose transitions from the positions of `node` in `marks` differ from those of
-/// the byte before it. The tree is not entered, and its positions begin at `base`. Returns whether
-/// the tree can be left if look-around assertions allow it.
+/// the next smaller byte. The tree is not entered, and its positions begin at `base`. Returns
+/// whether the tree can be left if all look-around assertions hold.
 #[cycle(follow)]
 fn follow(node: &Node, marks: &[usize], base: usize, marked: &mut [bool; 256]) -> bool
     requires fits { base + core.width (core_of node.now) < 2 ^ 64 }
@@ -199,8 +200,9 @@ fn follow(node: &Node, marks: &[usize], base: usize, marked: &mut [bool; 256]) -
     follow_node(node, marks, base, marked)
 }
 
-/// Marks and returns the same as `follow`, on a tree whose positions in `marks` are `own`, at least
-/// one. Skips branches of alternations without a position.
+/// Marks the same bytes as `follow` and returns the same result. `own` contains the positions of
+/// the tree in `marks`, of which there is at least one. Skips each branch of an alternation without
+/// a position in `marks`.
 #[cycle(follow)]
 fn follow_marked(node: &Node, marks: &[usize], own: OwnPositions, marked: &mut [bool; 256]) -> bool
     requires fits { own.base + core.width (core_of node.now) < 2 ^ 64 }
@@ -234,7 +236,7 @@ fn follow_marked(node: &Node, marks: &[usize], own: OwnPositions, marked: &mut [
     one | other
 }
 
-/// Marks and returns the same as `follow`, with a case for each form of tree.
+/// Marks the same bytes as `follow` and returns the same result, with a case for each form of tree.
 #[cycle(follow)]
 fn follow_node(node: &Node, marks: &[usize], base: usize, marked: &mut [bool; 256]) -> bool
     requires fits { base + core.width (core_of node.now) < 2 ^ 64 }
@@ -281,8 +283,8 @@ fn follow_node(node: &Node, marks: &[usize], base: usize, marked: &mut [bool; 25
 }
 
 /// Marks each byte whose transitions from the positions of `copies` of `body` differ from those of
-/// the byte before it. Returns whether one of the copies can be left if look-around assertions
-/// allow it; the body can then be entered again. Copies with the same positions are visited once.
+/// the next smaller byte. Returns whether at least one of the copies can be left if all look-around
+/// assertions hold. The body can then be entered again. Visits copies with the same positions once.
 #[cycle(follow)]
 fn follow_copies(body: &Node, copies: Copies, marks: &[usize], marked: &mut [bool; 256]) -> bool
     requires fits { copies.base + copies.each * copies.count < 2 ^ 64 }
@@ -308,8 +310,8 @@ fn follow_copies(body: &Node, copies: Copies, marks: &[usize], marked: &mut [boo
 }
 
 /// Marks each byte whose transitions from the positions of `node` in `marks` differ from those of
-/// the byte before it. The positions of the tree begin at `base`, and `entered` is whether it is
-/// entered.
+/// the next smaller byte. If `entered` is `true`, also compares the transitions from the start of
+/// the tree. The positions of the tree begin at `base`.
 pub fn mark_tree(node: &Node, marks: &[usize], base: usize, entered: bool, marked: &mut [bool; 256])
     requires fits { base + core.width (core_of node.now) < 2 ^ 64 }
     requires measured { IsTrue (is_measured node.now) }

@@ -1,6 +1,6 @@
-//! Finds the bytes that a pattern distinguishes from the byte before. `row` and `tree_steps`
-//! compute transitions only for these bytes; each other byte has the transition of the byte before
-//! it.
+//! Finds the bytes that a pattern distinguishes from the next smaller byte. `row` and `tree_steps`
+//! compute transitions only for these bytes. Each other byte has the transition of the next smaller
+//! byte.
 
 ghost use Rattle.std.specs.Prelude.{◌≡◌, ◌≢◌, ◌∷◌, ◌++◌, ◌+◌, ◌<◌, ℕ, [], IsTrue, IsFalse, OnOk, false, slice_index_or, if◌then◌else◌};
 ghost use Rattle.logos_automaton.specs.Views.{is_in, pairs, byte_in, kind_of_byte, IsRising, Has, SetsFlags, OpensAlike, AreKindBytes, AreFirstBytes, IsPrepared, cores_of};
@@ -12,7 +12,7 @@ use logos_positions::positions::look::kind_of;
 use logos_positions::positions::trees::next_tree;
 use std::alloc::{AllocError, Global};
 
-/// Marks `byte`, if the number is a byte: if it is below 256.
+/// Marks `byte` if it is less than 256.
 fn mark(byte: usize, marked: &mut [bool; 256])
     ensures { (x : ℕ) → x < 256 → slice_index_or marked.new x false ≡ false →
         (slice_index_or marked.old x false ≡ false) × (x ≢ byte) }
@@ -22,7 +22,7 @@ fn mark(byte: usize, marked: &mut [bool; 256])
     }
 }
 
-/// Marks the first byte of `range`, and the byte after its last one, if these are bytes.
+/// Marks the first number in `range`, and the number after the last one. Ignores numbers above 255.
 pub fn mark_range(range: Range, marked: &mut [bool; 256])
     ensures { SetsFlags (OpensAlike (byte_in (is_in ((range.first, range.last) ∷ []))))
         marked.old marked.new }
@@ -31,7 +31,7 @@ pub fn mark_range(range: Range, marked: &mut [bool; 256])
     mark(range.last as usize + 1, marked);
 }
 
-/// Marks each byte that a class of bytes with `ranges` distinguishes from the byte before it.
+/// Marks each byte that a class of the bytes in `ranges` distinguishes from the next smaller byte.
 pub fn mark_ranges(ranges: &[Range], marked: &mut [bool; 256])
     ensures { SetsFlags (OpensAlike (byte_in (is_in (pairs ranges.now)))) marked.old marked.new }
 {
@@ -55,15 +55,15 @@ pub fn note(bytes: &mut Vec<u8>, byte: u8, is_one: bool) -> Result<(), AllocErro
     Ok(())
 }
 
-/// Returns whether look-around assertions can distinguish the two bytes.
+/// Returns whether look-around assertions can distinguish the bytes `one` and `other`.
 fn kinds_differ(one: u8, other: u8) -> bool
     ensures { IsFalse result → kind_of_byte one ≡ kind_of_byte other }
 {
     kind_of(one) != kind_of(other)
 }
 
-/// Returns a flag for each byte: whether look-around assertions can distinguish it from the byte
-/// before it. The flag of the byte 0 is set.
+/// Returns an array in which the flag of a byte is `true` if look-around assertions can distinguish
+/// the byte from the next smaller byte. The flag of byte 0 is `true`.
 pub fn kind_bytes() -> [bool; 256]
     ensures { AreKindBytes result }
 {
@@ -74,7 +74,7 @@ pub fn kind_bytes() -> [bool; 256]
     first
 }
 
-/// Sets the flag of each of `bytes` in `first`.
+/// Sets `first[byte]` to `true` for each byte in `bytes`.
 pub fn add_bytes(bytes: &[u8], first: &mut [bool; 256])
     ensures { (byte : ℕ) → byte < 256 → slice_index_or first.new byte false ≡ false →
         (slice_index_or first.old byte false ≡ false) × ¬ (Has bytes.now byte) }
@@ -84,8 +84,8 @@ pub fn add_bytes(bytes: &[u8], first: &mut [bool; 256])
     }
 }
 
-/// Returns the flags `kinds` if `looks` is `true`: if some tree has a look-around assertion.
-/// Otherwise no flag is set.
+/// Returns `kinds` if `looks` is `true`, and an array in which no flag is set otherwise. `looks` is
+/// `true` if some tree has a look-around assertion.
 pub fn first_by_kind(looks: bool, kinds: &[bool; 256]) -> [bool; 256]
     requires kinds { AreKindBytes kinds.now }
     ensures { (x : ℕ) → x + 1 < 256 → slice_index_or result (x + 1) false ≡ false →
@@ -94,8 +94,9 @@ pub fn first_by_kind(looks: bool, kinds: &[bool; 256]) -> [bool; 256]
     if looks { *kinds } else { [false; 256] }
 }
 
-/// Returns a flag for each byte: whether it can be distinguished from the byte before it by
-/// look-around assertions, or by a tree that is entered or has a position in `marks`.
+/// Returns an array in which the flag of a byte is `true` if the byte can be distinguished from the
+/// next smaller byte by look-around assertions, or by a tree that has a position in `marks`. If
+/// `entered` is `true`, the trees can also distinguish the bytes at their starts.
 pub fn first_bytes(trees: &Trees<'_>, marks: &[usize], entered: bool) -> [bool; 256]
     requires prepared { IsPrepared trees.now }
     requires rising { IsRising marks.now }

@@ -1,5 +1,5 @@
-//! The steps of trees, which are computed once for each state of a tree. `row` looks up these steps
-//! while it fills the row of a state.
+//! Caches the steps of trees for each state of a tree. `row` looks up these steps while it fills
+//! the row of a state of the automaton.
 
 ghost use Rattle.std.specs.Prelude.{◌≡◌, ◌∷◌, ◌++◌, ◌+◌, ◌<◌, ◌≤◌, ◌↔◌, List, ℕ, [], false, IfOk, IsTrue, OnOk, length, slice_index, slice_index_or, if◌then◌else◌};
 ghost use Rattle.logos_automaton.specs.Views.{Node, kind_of_byte, Has, IsRising, state_of, Trees, AreKindBytes, IsPrepared, IsCacheOf, AreAlmostCached, AreCached, AreLive, HasSteps, IsTreeState, Keeps, state_after, step_of, tree_view};
@@ -14,8 +14,8 @@ use logos_positions::positions::set::first_from;
 use logos_positions::positions::trees::next_tree;
 use std::alloc::{AllocError, Global};
 
-/// The number of states of trees at which the cache is full. Before more are added, all are
-/// removed, which bounds the memory of the cache.
+/// The number of states of trees at which the cache is full. All states are removed from a full
+/// cache before more are added, which bounds the memory of the cache.
 const MAX_TREE_STATES: usize = 32_768;
 
 /// The states of trees that have occurred, and the steps from each of these states.
@@ -23,11 +23,11 @@ const MAX_TREE_STATES: usize = 32_768;
 pub struct StepCache {
     /// The states.
     pub states: IndexSet<TreeState>,
-    /// The steps from each state, at the index of the state.
+    /// The steps from each state, at the index of the state in `states`.
     pub steps: Vec<TreeSteps>,
 }
 
-/// A tree that has a position that read the last byte, with its steps.
+/// A tree with at least one position that read the last byte, and the steps of the tree.
 #[derive(Clone, Copy)]
 pub struct LiveTree {
     /// The number of the tree.
@@ -36,7 +36,7 @@ pub struct LiveTree {
     pub steps: usize,
 }
 
-/// Returns the positions of `marks` from `low` to `high`, without `high`.
+/// Returns the positions in `marks` from `low` up to but not including `high`.
 ///
 /// # Errors
 ///
@@ -58,7 +58,8 @@ fn marks_between(
     Vec::from_slice(alloc, &marks[from..to])
 }
 
-/// Returns the state of the tree `tree` in the state of all trees with the key `key`.
+/// Returns the state of the tree at the index `tree` within the automaton's state with the key
+/// `key`.
 ///
 /// # Errors
 ///
@@ -86,7 +87,7 @@ fn tree_state(trees: &Trees<'_>, key: &Key, tree: usize) -> Result<TreeState, Al
 }
 
 impl StepCache {
-    /// Returns a cache without states.
+    /// Returns an empty cache.
     pub fn new(alloc: Global) -> StepCache
         ensures { (nodes : List Node) (starts : List ℕ) →
             AreCached nodes starts result.states.keys result.steps.items }
@@ -97,8 +98,8 @@ impl StepCache {
         }
     }
 
-    /// Removes all states and steps if the cache is full: if it has `MAX_TREE_STATES` states or
-    /// more.
+    /// Removes all states and steps if the cache is full, that is, if it has at least
+    /// `MAX_TREE_STATES` states.
     pub fn trim(&mut self)
         ensures { (trees : Trees) → IsCacheOf trees self.old → IsCacheOf trees self.new }
     {
@@ -109,7 +110,7 @@ impl StepCache {
         self.steps.clear();
     }
 
-    /// Computes and stores the steps from the last state, if that state has none yet.
+    /// Computes and stores the steps from the last state, unless they are stored already.
     ///
     /// # Errors
     ///
@@ -132,7 +133,7 @@ impl StepCache {
         }
     }
 
-    /// Returns the index of the steps from `state`. If the state is new, adds it and computes its
+    /// Returns the index of the steps from `state`. If the state is new, adds the state and its
     /// steps.
     ///
     /// # Errors
@@ -152,8 +153,8 @@ impl StepCache {
         Ok(index)
     }
 
-    /// Returns the live trees of the state with the key `key`, which is not the start, ascending.
-    /// Adds the steps that are not stored yet.
+    /// Returns the live trees of the state with the key `key`, in ascending order. The state must
+    /// not be the start. Adds the steps of these trees that are not stored yet.
     ///
     /// # Errors
     ///
@@ -179,20 +180,21 @@ impl StepCache {
     }
 }
 
-/// The steps from a state for each byte, which are the steps of its live trees.
+/// The steps from a state of the automaton for each byte. They consist of the steps of the state's
+/// live trees.
 #[derive(Clone, Copy)]
 pub struct StateSteps<'c> {
     /// The allocator of the states to which the steps lead.
     pub alloc: Global,
-    /// The live trees of the state, ascending.
+    /// The live trees of the state, in ascending order.
     pub lives: &'c [LiveTree],
-    /// The steps of the cache, in which live trees have their indexes.
+    /// The steps in the cache, to which the indexes in `lives` refer.
     pub steps: &'c [TreeSteps],
     /// Whether some tree has a look-around assertion.
     pub looks: bool,
 }
 
-/// Appends to `positions` those positions of a live tree that read `byte`. Returns whether the tree
+/// Appends to `positions` the positions of a live tree that read `byte`. Returns whether the tree
 /// can be left before the byte.
 ///
 /// # Errors
@@ -234,8 +236,8 @@ fn push_if(numbers: &mut Vec<usize>, number: usize, is_one: bool) -> Result<(), 
     Ok(())
 }
 
-/// Sets the flag in `first` of each byte whose step on a live tree differs from that of the byte
-/// before it.
+/// Sets `first[byte]` to `true` for each byte whose step on a live tree differs from the step of
+/// the next smaller byte.
 fn add_changes(steps: &[TreeSteps], live: LiveTree, first: &mut [bool; 256])
     ensures { (x : ℕ) → x + 1 < 256 → slice_index_or first.new (x + 1) false ≡ false →
         (slice_index_or first.old (x + 1) false ≡ false)
@@ -247,7 +249,7 @@ fn add_changes(steps: &[TreeSteps], live: LiveTree, first: &mut [bool; 256])
 }
 
 impl StateSteps<'_> {
-    /// Returns the key of the state that `byte` leads to.
+    /// Returns the key of the state to which `byte` leads.
     ///
     /// # Errors
     ///
@@ -269,8 +271,8 @@ impl StateSteps<'_> {
         })
     }
 
-    /// Returns a flag for each byte: whether it can lead to another state than the byte before it.
-    /// `kinds` are the flags of the bytes that look-around assertions can distinguish.
+    /// Returns an array in which the flag of a byte is `true` if the byte can lead to another state
+    /// than the next smaller byte. `kinds` contains the flags that `kind_bytes` returns.
     pub fn changes(self, kinds: &[bool; 256]) -> [bool; 256]
         requires kinds { AreKindBytes kinds.now }
         ensures { (x : ℕ) → x + 1 < 256 → slice_index_or result (x + 1) false ≡ false →

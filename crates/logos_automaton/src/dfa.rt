@@ -1,5 +1,5 @@
-//! The automaton of rules, whose states name each match one byte late. `logos_graph` reduces it to
-//! a graph.
+//! The automaton of rules. Its states record each match one byte late. `logos_graph` reduces the
+//! automaton to a graph.
 
 ghost use Rattle.std.specs.Prelude.{◌≡◌, ◌<◌, length, vec_len};
 ghost use Rattle.logos_automaton.specs.Imports.{AreReachable, AreByteRows, LeadWithin, EndWithin};
@@ -13,9 +13,10 @@ use crate::key::Key;
 pub use crate::row::Row;
 pub use walks::{Children, DfaStates, Matches, StateId};
 
-/// An automaton that reads bytes and the end of the input. Each state has the leaves that match all
-/// bytes read but the last one, or all bytes if the end was read, and a target for each byte and
-/// for the end.
+/// An automaton that reads bytes and the end of the input.
+///
+/// Each state has the leaves that match all bytes read except the last one, or all bytes if the end
+/// was read. Each state also has a target for each byte and a target for the end.
 #[derive(Drop)]
 pub struct Dfa {
     states: Vec<Key>,

@@ -1,5 +1,5 @@
-//! The faults of rules, and the reasons that an automaton is not built. `faults` and `dfa::builder`
-//! return these errors.
+//! Defines the faults of rules, and the reasons why an automaton is not built. `faults` and
+//! `dfa::builder` return these errors.
 
 ghost use Rattle.std.specs.Prelude.{◌≡◌};
 ghost use Rattle.logos_automaton.specs.declared.errors.BuildError.TheVariants.{Memory};
@@ -10,21 +10,21 @@ use std::alloc::{AllocError, AllocFailed};
 /// A fault of the leaves of a lexer.
 #[derive(Debug, Drop)]
 pub enum GraphError {
-    /// A pattern that can have a look-around assertion before its first byte.
+    /// Some pattern can have a look-around assertion before its first byte.
     NoUniversalStart,
-    /// The leaf whose pattern can match the empty string.
+    /// The pattern of this leaf can match the empty string.
     EmptyMatch(LeafId),
-    /// The leaves that have the highest priority among all leaves that match some text, two or
-    /// more, in ascending order.
+    /// These leaves have the highest priority among all leaves that match some text. The list has
+    /// at least two leaves, in ascending order.
     Disambiguation(Vec<LeafId>),
 }
 
-/// The reason that a graph is not built.
+/// The reason why a graph is not built.
 #[derive(Clone, Copy, Debug, PartialEq, Eq)]
 pub enum BuildError {
-    /// The size of all trees together exceeds 1,048,576.
+    /// The total size of all trees exceeds 1,048,576.
     LimitSize,
-    /// The automaton has more than 65,536 states.
+    /// The automaton would have more than 65,536 states.
     LimitStates,
     /// Memory ran out.
     Memory,

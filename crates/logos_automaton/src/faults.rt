@@ -1,5 +1,5 @@
-//! Finds the faults of rules. `Graph::new` of `logos_graph` calls `graph_errors` once the automaton
-//! is built.
+//! Finds the faults of rules. `Graph::new` of `logos_graph` calls `graph_errors` after it has built
+//! the automaton.
 
 ghost use Rattle.std.specs.Prelude.{◌≡◌, ℕ, ◌≤◌, ◌⊎◌, ◌↔◌, IfOk, OnOk, List, map, Contains, vec_len};
 ghost use Rattle.logos_automaton.specs.Views.{AreFaults, ArePassable, AreAmbiguous, Ascends, empty_match, disambiguation, AllStart, priority_of, highest_of, with_priority, top_of, IsTopSet, IsTopIn, AreTopSets, IsTotal, ReadsOneByteLate, dfa_of, fault_of, numbers, rules_of};
@@ -13,7 +13,7 @@ use logos_hir::leaf::LeafId;
 use std::alloc::{AllocError, Global};
 use std::collections::BTreeSet;
 
-/// Returns the leaves whose trees can match the empty string, ascending.
+/// Returns the leaves whose trees can match the empty string, in ascending order.
 ///
 /// # Errors
 ///
@@ -40,7 +40,7 @@ pub fn priority_at(rules: &[RuleView<'_>], leaf: usize) -> usize
     }
 }
 
-/// Returns the highest priority among the leaves `listed`, or 0 if there are none.
+/// Returns the highest priority among the leaves in `listed`, or 0 if `listed` is empty.
 fn highest(rules: &[RuleView<'_>], listed: &[usize]) -> usize
     ensures { result ≡ highest_of (rules_of rules.now) listed.now }
 {
@@ -51,7 +51,7 @@ fn highest(rules: &[RuleView<'_>], listed: &[usize]) -> usize
     highest
 }
 
-/// Returns the leaves of `listed` that have the priority `priority`, in order.
+/// Returns the leaves in `listed` with the priority `priority`, in the order of `listed`.
 ///
 /// # Errors
 ///
@@ -74,8 +74,8 @@ fn with_priority(
     Ok(chosen)
 }
 
-/// Adds the set of the leaves with the highest priority among `listed` to `sets`, if it has two or
-/// more leaves.
+/// Selects the leaves in `listed` with the highest priority. Adds this set of leaves to `sets` if
+/// it has at least two leaves.
 ///
 /// # Errors
 ///
@@ -100,7 +100,7 @@ fn add_top_set(
     add_set(sets, top)
 }
 
-/// Adds `set` to `sets`, if it is new.
+/// Adds `set` to `sets` if it is new.
 ///
 /// # Errors
 ///
@@ -113,8 +113,8 @@ fn add_set(sets: &mut BTreeSet<Vec<usize>>, set: Vec<usize>) -> Result<(), Alloc
     Ok(())
 }
 
-/// Returns, for the leaves of each state, the set of those with the highest priority, if it has two
-/// or more leaves.
+/// Returns the sets of leaves that share the highest priority in a state. A state whose highest
+/// priority belongs to a single leaf adds no set.
 ///
 /// # Errors
 ///
@@ -188,7 +188,8 @@ pub fn ambiguous_sets(
     in_order(alloc, &sets)
 }
 
-/// Returns a fault for each of the leaves `passed`, which can match the empty string.
+/// Returns an `EmptyMatch` for each leaf in `passed`. The trees of these leaves can match the empty
+/// string.
 ///
 /// # Errors
 ///
@@ -204,7 +205,8 @@ fn empty_matches(alloc: Global, passed: Vec<LeafId>) -> Result<Vec<GraphError>, 
     Ok(errors)
 }
 
-/// Returns a fault for each of `sets`: a set of leaves that length and priority do not distinguish.
+/// Returns a `Disambiguation` for each set in `sets`. Length and priority do not distinguish the
+/// leaves of a set.
 ///
 /// # Errors
 ///
@@ -220,8 +222,10 @@ fn disambiguations(alloc: Global, sets: Vec<Vec<LeafId>>) -> Result<Vec<GraphErr
     Ok(errors)
 }
 
-/// Returns the faults of rules and of their automaton: one `NoUniversalStart`, if there is that
-/// fault; otherwise each `EmptyMatch`, if there are any; otherwise each `Disambiguation`.
+/// Returns the faults of rules and of their automaton.
+///
+/// Returns only `NoUniversalStart` if the rules have this fault. Otherwise returns each
+/// `EmptyMatch`, and if there is none, each `Disambiguation`.
 ///
 /// # Errors
 ///

@@ -1,4 +1,4 @@
-//! The keys of states, by which a state is looked up while the automaton is built. `dfa::builder`
+//! Computes the keys by which states are looked up while the automaton is built. `dfa::builder`
 //! begins with the key of the start, and `row` computes the key of each target.
 
 ghost use Rattle.std.specs.Prelude.{◌≡◌, ◌<◌, ◌≤◌, ◌+◌, Bool, List, IfOk, OnOk, length};
@@ -12,20 +12,20 @@ use logos_positions::positions::step::ReadByte;
 use logos_positions::positions::trees::{Forest, exits_all, step_all};
 use std::alloc::{AllocError, Global};
 
-/// The key of a state: the information that an automaton keeps about the bytes that it has read.
+/// The key of a state: the information that an automaton stores about the bytes that it has read.
 #[derive(PartialEq, Eq, Hash, Drop)]
 pub struct Key {
-    /// The positions that can have read the last byte, ascending.
+    /// The positions that can have read the last byte, in ascending order.
     pub positions: Vec<usize>,
-    /// The kind of that byte, or `Unseen` if look-around assertions cannot depend on it.
+    /// The kind of the last byte, or `Unseen` if look-around assertions cannot depend on the byte.
     pub kind: ByteKind,
-    /// The numbers of the trees that match all bytes before that byte, or all bytes if the end was
-    /// read, ascending.
+    /// The numbers of the trees that match all bytes before the last byte, or all bytes if the end
+    /// was read. The numbers are in ascending order.
     pub matches: Vec<usize>,
 }
 
-/// Returns the kind of `byte`, which is read at `positions`, or `Unseen` if there are no positions
-/// or `looks` is `false`: no tree has a look-around assertion.
+/// Returns the kind of `byte`, which is read at `positions`. Returns `Unseen` if `positions` is
+/// empty or `looks` is `false`. `looks` is `true` if some tree has a look-around assertion.
 pub fn next_kind(looks: bool, positions: &[usize], byte: u8) -> ByteKind
     ensures { result ≡ keys.next_kind looks positions.now byte }
 {
@@ -36,7 +36,7 @@ pub fn next_kind(looks: bool, positions: &[usize], byte: u8) -> ByteKind
     }
 }
 
-/// Returns whether no byte was read, where `kind` is the kind of the last byte.
+/// Returns whether no byte was read. `kind` is the kind of the last byte.
 pub fn is_start(kind: ByteKind) -> bool
     ensures { result ≡ keys.is_start kind }
 {
@@ -54,7 +54,7 @@ pub fn start_key(alloc: Global) -> Key
     }
 }
 
-/// Returns the key of the state that `byte` leads to from the state with the key `key`.
+/// Returns the key of the state to which `byte` leads from the state with the key `key`.
 ///
 /// # Errors
 ///
@@ -86,7 +86,7 @@ pub fn step_key(trees: &Trees<'_>, key: &Key, byte: u8) -> Result<Key, AllocErro
     })
 }
 
-/// Returns the key of the state that the end of the input leads to from the state with the key
+/// Returns the key of the state to which the end of the input leads from the state with the key
 /// `key`.
 ///
 /// # Errors
@@ -114,8 +114,8 @@ pub fn end_key(trees: &Trees<'_>, key: &Key) -> Result<Key, AllocError>
     })
 }
 
-/// Returns the key of the state after the end of the input, where the trees `matches` match all
-/// bytes.
+/// Returns the key of the state after the end of the input in which the trees in `matches` match
+/// all bytes.
 ///
 /// # Errors
 ///
@@ -130,7 +130,7 @@ pub fn ended_key(alloc: Global, matches: &[usize]) -> Result<Key, AllocError>
     })
 }
 
-/// Returns the number of the state with the key `key`, and adds the state to `states` if it is new.
+/// Returns the number of the state with the key `key`. Adds the state to `states` if it is new.
 ///
 /// # Errors
 ///

@@ -1,5 +1,5 @@
-//! The automaton of rules, whose states name matches one byte late, and the faults of rules.
-//! `logos_graph` builds graphs of automata.
+//! Builds the automaton of rules and finds the faults of the rules. The states of the automaton
+//! record matches one byte late. `logos_graph` reduces automata to graphs.
 
 #![tactic(auto)]
 

@@ -1,5 +1,5 @@
-//! Measures of trees. None of them allocates. `rule` and `faults` decide whether a tree can match
-//! the empty string or has a look-around assertion, and `logos_graph` computes the size of trees.
+//! Measures trees without allocation. `rule` and `faults` determine whether a tree can match the
+//! empty string or has a look-around assertion. `logos_graph` computes the size of trees.
 
 ghost use Rattle.std.specs.Prelude.{◌≡◌, ℕ, ◌+◌, ◌*◌, ◌^◌, ◌≤◌, ◌↔◌, IsTrue, length, max, map};
 ghost use Rattle.logos_automaton.specs.Imports.{class_tree, tree_of, trees, IsWithinLimit, size, sizes};
@@ -8,11 +8,10 @@ ghost use Rattle.logos_positions.specs.Positions as positions;
 
 use logos_hir::hir::{Class, Hir};
 
-/// The greatest size that all trees together can have.
+/// The greatest allowed size of all trees together.
 const SIZE_LIMIT: usize = 1 << 20;
 
-/// Returns whether a tree can match the empty string: whether it does if each look-around assertion
-/// holds.
+/// Returns whether a tree matches the empty string if all look-around assertions hold.
 #[cycle(passable)]
 pub fn passable(hir: &Hir) -> bool
     ensures { result ≡ tree.passable (tree_of hir.now) }
@@ -41,7 +40,7 @@ fn all_passable(parts: &[Hir]) -> bool
     true
 }
 
-/// Returns whether one of the trees can match the empty string.
+/// Returns whether at least one of the trees can match the empty string.
 #[cycle(passable)]
 fn some_passable(branches: &[Hir]) -> bool
     ensures { result ≡ tree.some_passable (trees (map tree_of branches.now)) }
@@ -69,7 +68,7 @@ pub fn leads(hir: &Hir) -> bool
 }
 
 /// Returns whether one of the trees can have a look-around assertion before its first byte, and all
-/// trees before that one can match the empty string.
+/// preceding trees can match the empty string.
 #[cycle(leads)]
 fn leads_in_order(parts: &[Hir]) -> bool
     ensures { result ≡ tree.leads_in_order (trees (map tree_of parts.now)) }
@@ -85,7 +84,8 @@ fn leads_in_order(parts: &[Hir]) -> bool
     false
 }
 
-/// Returns whether one of the trees can have a look-around assertion before its first byte.
+/// Returns whether at least one of the trees can have a look-around assertion before its first
+/// byte.
 #[cycle(leads)]
 fn some_leads(branches: &[Hir]) -> bool
     ensures { result ≡ tree.some_leads (trees (map tree_of branches.now)) }
@@ -111,7 +111,7 @@ pub fn has_look(hir: &Hir) -> bool
     }
 }
 
-/// Returns whether one of the trees has a look-around assertion.
+/// Returns whether at least one of the trees has a look-around assertion.
 #[cycle(has_look)]
 fn some_has_look(hirs: &[Hir]) -> bool
     ensures { result ≡ positions.some_has_look (trees (map tree_of hirs.now)) }
@@ -126,7 +126,7 @@ fn some_has_look(hirs: &[Hir]) -> bool
 
 // In the following functions `None` is a size that exceeds the limit.
 
-/// Returns `size`, or `None` if it exceeds the limit.
+/// Returns `size`, or `None` if `size` exceeds the limit.
 fn limited(size: usize) -> Option<usize>
     ensures { IsWithinLimit size result }
 {
@@ -136,14 +136,15 @@ fn limited(size: usize) -> Option<usize>
     Some(size)
 }
 
-/// Returns the sum of two sizes, or `None` if one of them or the sum exceeds the limit.
+/// Returns the sum of two sizes. Returns `None` if the sum exceeds the limit or one of the sizes is
+/// `None`.
 pub fn plus(a: Option<usize>, b: Option<usize>) -> Option<usize>
     ensures { (m n : ℕ) → IsWithinLimit m a → IsWithinLimit n b → IsWithinLimit (m + n) result }
 {
     limited(a?.checked_add(b?)?)
 }
 
-/// Returns the factor by which the body of a repetition counts in the repetition's size.
+/// Returns the factor by which a repetition multiplies the size of its body.
 fn copies(min: u32, max: Option<u32>) -> usize
     ensures count { result ≡ positions.copies min max }
     ensures some { 1 ≤ result }
@@ -155,8 +156,8 @@ fn copies(min: u32, max: Option<u32>) -> usize
     }
 }
 
-/// Returns the size of a repetition with a body of the size `body`, or `None` if that size or the
-/// result exceeds the limit.
+/// Returns the size of a repetition whose body has the size `body`. Returns `None` if the result
+/// exceeds the limit or `body` is `None`.
 fn times(body: Option<usize>, min: u32, max: Option<u32>) -> Option<usize>
     ensures { (n : ℕ) → IsWithinLimit n body → IsWithinLimit (n * positions.copies min max) result }
 {

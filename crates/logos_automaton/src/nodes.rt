@@ -1,4 +1,5 @@
-//! Prepares the trees of rules for the automaton. `dfa::builder` calls `nodes_of` before its loop.
+//! Prepares the trees of rules for the automaton. `dfa::builder` calls `nodes_of` before it builds
+//! the states.
 
 ghost use Rattle.std.specs.Prelude.{◌^◌, ◌≤◌, IfOk, map};
 ghost use Rattle.logos_automaton.specs.Views.{core_of, AreMeasured, AreRuleCores, size_of, rules_of};
@@ -8,7 +9,7 @@ use logos_positions::node::Node;
 use logos_positions::preparation::prepare;
 use std::alloc::{AllocError, Global};
 
-/// Returns the prepared trees of `rules`, whose size must be within the limit.
+/// Returns the prepared trees of `rules`. The size of all trees together must be within the limit.
 ///
 /// # Errors
 ///

@@ -1,5 +1,5 @@
-//! Computes the targets of states while the automaton is built. The loop of `dfa::builder` calls
-//! `row_of` and `end_after` for each state in turn.
+//! Computes the targets of states while the automaton is built. `dfa::builder` calls `row_of` and
+//! `end_after` for each state in turn.
 
 ghost use Rattle.std.specs.Prelude.{Bool, List, ℕ, ◌≡◌, ◌^◌, ◌<◌, ◌≤◌, ◌+◌, IfOk, IfSome, IsFalse, OnOk, false, length, slice_index};
 ghost use Rattle.logos_automaton.specs.Views.{Core, AreKindBytes, IsCacheOf, IsPrepared, cores_of, Foresees, IsNotStart, state_after, AreRising, AreReached, AreFirstIn, Extends, Grows, IsAt, LeadsTo, EndsIn, IsRow};
@@ -14,15 +14,14 @@ use std::alloc::AllocError;
 /// The targets of a state, indexed by byte.
 pub type Row = [u16; 256];
 
-/// The number of symbols: all bytes, and the end of the input.
+/// The number of symbols, which are all bytes and the end of the input.
 pub const SYMBOLS: usize = 257;
 
-/// The targets of a state, indexed by byte, while the automaton is built and can have a few more
-/// states than the limit.
+/// The targets of a state, indexed by byte, while the automaton is built. At that time, the number
+/// of states can exceed the limit.
 pub type DraftRow = [u32; 256];
 
-/// Returns the target of the state `state` for `byte`, and adds the target to `states` if it is
-/// new.
+/// Returns the target of the state `state` for `byte`. Adds the target to `states` if it is new.
 ///
 /// # Errors
 ///
@@ -51,8 +50,8 @@ fn target_of(
     Ok(target as u32)
 }
 
-/// Returns the target of the state `state` for the end, and adds the target to `states` if it is
-/// new.
+/// Returns the target of the state `state` for the end of the input. Adds the target to `states` if
+/// it is new.
 ///
 /// # Errors
 ///
@@ -75,9 +74,12 @@ fn end_of(trees: &Trees<'_>, states: &mut IndexSet<Key>, state: usize) -> Result
     Ok(target as u32)
 }
 
-/// Returns the target of a state for the end, if no tree has a look-around assertion, and adds the
-/// target to `states` if it is new. The leaves that match before the end are those that match
-/// before a byte, and are thus the leaves of `by_zero`, the state's target for the byte 0.
+/// Returns the target of a state for the end of the input if no tree has a look-around assertion.
+/// Adds the target to `states` if it is new.
+///
+/// `by_zero` is the target of the state for byte 0. Without look-around assertions, a leaf matches
+/// before the end if and only if it matches before a byte. The target for the end thus has the
+/// leaves of `by_zero`.
 ///
 /// # Errors
 ///
@@ -105,8 +107,8 @@ fn end_as_by_zero(
     Ok(target as u32)
 }
 
-/// Returns the target of the state `state` for the end, and adds the target to `states` if it is
-/// new. `by_zero` is the state's target for the byte 0.
+/// Returns the target of the state `state` for the end of the input. Adds the target to `states` if
+/// it is new. `by_zero` is the target of the state for byte 0.
 ///
 /// # Errors
 ///
@@ -133,8 +135,8 @@ pub fn end_after(
     end_as_by_zero(trees, states, state, by_zero)
 }
 
-/// Returns the target of the state `state` for `byte`: `known`, if that is not `None`. Otherwise
-/// adds the target to `states` if it is new.
+/// Returns the target in `known` if there is one. Otherwise computes the target of the state
+/// `state` for `byte`, adds the target to `states` if it is new, and returns the target.
 ///
 /// # Errors
 ///
@@ -164,8 +166,8 @@ fn next_target(
     }
 }
 
-/// Returns a flag for each byte: whether the state `state` can distinguish it from the byte before
-/// it.
+/// Returns an array in which the flag of a byte is `true` if the state `state` can distinguish the
+/// byte from the next smaller byte.
 fn first_in(trees: &Trees<'_>, states: &IndexSet<Key>, state: usize) -> [bool; 256]
     requires prepared { IsPrepared trees.now }
     requires within { state < length states.now.keys }
@@ -178,8 +180,8 @@ fn first_in(trees: &Trees<'_>, states: &IndexSet<Key>, state: usize) -> [bool; 2
     }
 }
 
-/// Returns the targets of the state `state` for all bytes, without the cache of steps, and adds the
-/// targets that are new to `states`.
+/// Returns the targets of the state `state` for all bytes, computed without the cache of steps.
+/// Adds the new targets to `states`.
 ///
 /// # Errors
 ///
@@ -210,8 +212,8 @@ fn plain_row(
     Ok(row)
 }
 
-/// Returns the target of a state for `byte`, computed from the steps of its live trees, and adds
-/// the target to `states` if it is new.
+/// Returns the target of a state for `byte`, computed from the steps of the state's live trees.
+/// Adds the target to `states` if it is new.
 ///
 /// # Errors
 ///
@@ -231,8 +233,9 @@ fn target_by(steps: StateSteps<'_>, states: &mut IndexSet<Key>, byte: u8) -> Res
     Ok(target as u32)
 }
 
-/// Returns the target of a state for `byte`: `known`, if that is not `None`. Otherwise computes the
-/// target from the steps of the state's live trees, and adds it to `states` if it is new.
+/// Returns the target in `known` if there is one. Otherwise computes the target of a state for
+/// `byte` from the steps of the state's live trees, adds the target to `states` if it is new, and
+/// returns the target.
 ///
 /// # Errors
 ///
@@ -260,9 +263,8 @@ fn known_or_target_by(
     }
 }
 
-/// Returns the targets of a state for all bytes, computed from the steps of its live trees, and
-/// adds the targets that are new to `states`. `kinds` are the flags of the bytes that look-around
-/// assertions can distinguish.
+/// Returns the targets of a state for all bytes, computed from the steps of the state's live trees.
+/// Adds the new targets to `states`. `kinds` contains the flags that `kind_bytes` returns.
 ///
 /// # Errors
 ///
@@ -292,7 +294,8 @@ fn row_by(
     Ok(row)
 }
 
-/// Returns the live trees of the state `state`, which is not the start, ascending.
+/// Returns the live trees of the state `state`, in ascending order. The state must not be the
+/// start.
 ///
 /// # Errors
 ///
@@ -329,10 +332,11 @@ fn is_start_at(states: &IndexSet<Key>, state: usize) -> bool
     }
 }
 
-/// Returns the targets of the state `state` for all bytes, and adds the targets that are new to
-/// `states`. The steps of the start are not stored, since it enters each tree and no other state
-/// shares its steps. The steps of a single tree are not stored either, since its states seldom
-/// occur twice.
+/// Returns the targets of the state `state` for all bytes, and adds the new targets to `states`.
+///
+/// Does not store the steps from the start, which no other state shares because only the start
+/// enters the trees. If there is only one tree, stores no steps, because the states of the tree
+/// seldom occur twice.
 ///
 /// # Errors
 ///
@@ -370,7 +374,7 @@ pub fn row_of(
     row_by(steps, trees.kinds, states)
 }
 
-/// Returns `row` in half the memory. Each target must be less than 65,536.
+/// Returns `row` with entries of half the size. Each target must be less than 65,536.
 pub fn narrowed(row: &DraftRow) -> Row
     requires { (byte : ℕ) → byte < 256 → slice_index row.now byte < 2 ^ 16 }
     ensures wide { length result ≡ 256 }

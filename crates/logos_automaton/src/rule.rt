@@ -1,5 +1,5 @@
-//! Rules: the parts of leaves that an automaton needs. `logos_graph` creates a rule for each of its
-//! leaves.
+//! Defines rules: the parts of leaves that an automaton needs. `logos_graph` creates a rule for
+//! each of its leaves.
 
 ghost use Rattle.std.specs.Prelude.{◌≡◌};
 ghost use Rattle.logos_automaton.specs.Faults as faults;
@@ -9,7 +9,7 @@ ghost use Rattle.logos_automaton.specs.View.{rules_of};
 use crate::measures::{has_look, leads, passable};
 use logos_hir::hir::Hir;
 
-/// A leaf as a rule: its tree, its priority, and the use of its matches.
+/// The parts of a leaf that an automaton needs: its tree, its priority, and the use of its matches.
 #[derive(Clone, Copy)]
 pub struct RuleView<'h> {
     /// The tree of the leaf's pattern.
@@ -22,7 +22,8 @@ pub struct RuleView<'h> {
     pub calls_back: bool,
 }
 
-/// Returns whether the tree of a rule can have a look-around assertion before its first byte.
+/// Returns whether the tree of at least one rule can have a look-around assertion before its first
+/// byte.
 pub fn some_leads(rules: &[RuleView<'_>]) -> bool
     ensures { result ≡ faults.some_leads (rules_of rules.now) }
 {
@@ -34,7 +35,7 @@ pub fn some_leads(rules: &[RuleView<'_>]) -> bool
     false
 }
 
-/// Returns whether the tree of a rule can match the empty string.
+/// Returns whether the tree of at least one rule can match the empty string.
 pub fn some_passable(rules: &[RuleView<'_>]) -> bool
     ensures { result ≡ faults.some_passable (rules_of rules.now) }
 {
@@ -46,7 +47,7 @@ pub fn some_passable(rules: &[RuleView<'_>]) -> bool
     false
 }
 
-/// Returns whether the tree of a rule has a look-around assertion.
+/// Returns whether the tree of at least one rule has a look-around assertion.
 pub fn some_look(rules: &[RuleView<'_>]) -> bool
     ensures { result ≡ inner.some_look (rules_of rules.now) }
 {

@@ -1,5 +1,5 @@
-//! The input of the construction of states. `dfa::builder` makes a value of `Trees` before its
-//! loop.
+//! Defines the input of the construction of states. `dfa::builder` makes a value of `Trees` before
+//! its loop.
 
 ghost use Rattle.std.specs.Prelude.{◌^◌, ◌<◌, IfOk, map};
 ghost use Rattle.logos_automaton.specs.Imports.{AreMeasured, AreStarts, core_of, width_of};
@@ -7,24 +7,25 @@ ghost use Rattle.logos_automaton.specs.Imports.{AreMeasured, AreStarts, core_of,
 use logos_positions::node::{Node, width};
 use std::alloc::{AllocError, Global};
 
-/// The trees of an automaton, and the values that are computed from them before the first state is
-/// built.
+/// The trees of an automaton, and the values that are computed from the trees before the first
+/// state is built.
 #[derive(Clone, Copy)]
 pub struct Trees<'n> {
-    /// The allocator of everything that is built.
+    /// The allocator of the automaton.
     pub alloc: Global,
-    /// The trees.
+    /// The prepared trees.
     pub nodes: &'n [Node],
-    /// The first position of each tree, and the position after the last tree.
+    /// The first position of each tree, followed by the position after the last tree.
     pub starts: &'n [usize],
-    /// Whether some tree has a look-around assertion. Only then do states have the kind of the last
-    /// byte.
+    /// Whether some tree has a look-around assertion. Only then do states store the kind of the
+    /// last byte.
     pub looks: bool,
-    /// For each byte, whether look-around assertions can distinguish it from the byte before it.
+    /// The flags of all bytes, each `true` if look-around assertions can distinguish the byte from
+    /// the next smaller byte.
     pub kinds: &'n [bool; 256],
 }
 
-/// Returns the first position of each tree, and at the end the position after the last tree.
+/// Returns the first position of each tree, followed by the position after the last tree.
 ///
 /// # Errors
 ///

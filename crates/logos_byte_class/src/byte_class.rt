@@ -1,5 +1,5 @@
-//! Sets of bytes, and the comparisons that test for them. Graphs label edges with classes, and
-//! generators turn classes into comparisons.
+//! Sets of bytes, and comparisons that test whether a byte is in a set. Graphs label edges with
+//! byte classes, and generators turn classes into comparisons.
 
 ghost use Rattle.std.specs.Prelude.{◌≡◌, ℕ, ◌<◌, ◌≤◌, ◌↔◌, ◌||◌, not, IsTrue, IfOk, OnOk, OnErr, false, [], ◌∷◌, length, map, drop, slice_index_or};
 ghost use Rattle.logos_byte_class.specs.Views.{is_in, bounds, ranges_of, has_byte, AreSeparated, comparison_of, compares, some_compares, joined, operations};
@@ -8,10 +8,10 @@ use logos_token::error::Memory;
 use std::alloc::{AllocError, Global};
 use std::ops::RangeInclusive;
 
-/// A set of bytes, as ranges.
+/// A set of bytes, stored as ranges.
 #[derive(Clone, Debug, PartialEq, Eq, Hash, Drop)]
 pub struct ByteClass {
-    /// The ranges of the bytes, each from its start to its end, both included.
+    /// The ranges of the bytes. Each range includes both of its ends.
     pub ranges: Vec<RangeInclusive<u8>>,
 }
 
@@ -28,8 +28,8 @@ impl ByteClass {
         false
     }
 
-    /// Returns whether each range has a byte, and the ranges ascend with at least one byte between
-    /// any two.
+    /// Returns whether the ranges are nonempty and ascend, with at least one byte between any two
+    /// ranges.
     pub fn is_separated(&self) -> bool
         ensures { IsTrue result ↔ AreSeparated (ranges_of self.now) }
     {
@@ -45,7 +45,7 @@ impl ByteClass {
         true
     }
 
-    /// Returns a table with an entry for each byte: whether the class contains the byte.
+    /// Returns a table in which the entry of a byte is `true` if the class contains the byte.
     pub fn to_table(&self) -> [bool; 256]
         ensures { (b : ℕ) → b < 256 → slice_index_or result b false ≡ has_byte self.now b }
     {
@@ -58,8 +58,8 @@ impl ByteClass {
 }
 
 impl ByteClass {
-    /// Adds the bytes of `other` to the class. Afterwards the ranges ascend with at least one byte
-    /// between any two, regardless of their order before.
+    /// Adds the bytes of `other` to the class. Afterwards, the ranges ascend with at least one byte
+    /// between any two ranges, regardless of their order before.
     ///
     /// # Errors
     ///
@@ -76,8 +76,8 @@ impl ByteClass {
         Ok(())
     }
 
-    /// Returns a table with an entry for each byte: whether one of the two classes contains the
-    /// byte.
+    /// Returns a table in which the entry of a byte is `true` if at least one of the two classes
+    /// contains the byte.
     fn table_with(&self, other: &ByteClass) -> [bool; 256]
         ensures { (b : ℕ) → b < 256 → slice_index_or result b false
             ≡ (has_byte self.now b || has_byte other.now b) }
@@ -90,8 +90,8 @@ impl ByteClass {
     }
 
     /// Returns comparisons that hold for exactly the bytes of the class. Ranges with exactly one
-    /// byte between them share a comparison, and that byte is one of its exceptions. The class must
-    /// be separated, as `is_separated` tests.
+    /// byte between them share a comparison, and the byte is an exception of this comparison. The
+    /// class must be separated, as tested by `is_separated`.
     ///
     /// # Errors
     ///
@@ -134,7 +134,7 @@ fn first_where(table: &[bool], from: usize, wanted: bool) -> usize
     256
 }
 
-/// Returns the ranges of the bytes whose flags in `table` are set, ascending.
+/// Returns the ranges of the bytes whose flags in `table` are set, in ascending order.
 fn ranges_of_table(alloc: Global, table: &[bool]) -> Result<Vec<RangeInclusive<u8>>, AllocError>
     requires { length table.now ≡ 256 }
     ensures members { IfOk result (λ made. (b : ℕ) → b < 256 →
@@ -151,8 +151,8 @@ fn ranges_of_table(alloc: Global, table: &[bool]) -> Result<Vec<RangeInclusive<u
     Ok(made)
 }
 
-/// Returns one comparison for as many of the first `ranges` as have exactly one byte between each
-/// two, and the number of these ranges.
+/// Returns one comparison for the longest prefix of `ranges` in which neighboring ranges have
+/// exactly one byte between them. Also returns the number of ranges in this prefix.
 fn first_comparison(
     alloc: Global,
     ranges: &[RangeInclusive<u8>],
@@ -180,18 +180,18 @@ fn first_comparison(
     ))
 }
 
-/// A comparison of a byte with a range, except for some bytes of the range.
+/// A comparison that holds for the bytes of a range, except for some bytes of the range.
 #[derive(Debug, Drop)]
 pub struct Comparisons {
-    /// The range, from its start to its end, both included.
+    /// The range, which includes both of its ends.
     pub range: RangeInclusive<u8>,
     /// The bytes of the range that are excluded.
     pub except: Vec<u8>,
 }
 
 impl Comparisons {
-    /// Returns the comparison with the whole of `range`, without exceptions. The list of exceptions
-    /// takes its memory from `alloc` when it grows; this call takes none.
+    /// Returns a comparison with `range` and without exceptions. The list of exceptions takes its
+    /// memory from `alloc` when it grows. This call does not allocate.
     pub fn new(alloc: Global, range: RangeInclusive<u8>) -> Comparisons
         ensures range { result.range ≡ range }
         ensures except { result.except.items ≡ [] }
@@ -202,8 +202,10 @@ impl Comparisons {
         }
     }
 
-    /// Returns the number of operations that test a byte: one for a single byte, otherwise one for
-    /// a start above 0 and one for an end below 255, and one for each exception.
+    /// Returns the number of operations that test a byte. A range of a single byte counts as one
+    /// operation. For any other range, a start above 0 counts as one operation, and so does an end
+    /// below
+    /// 255. Each exception counts as one operation.
     pub fn count_ops(&self) -> usize
         ensures { result ≡ operations (comparison_of self.now) }
     {

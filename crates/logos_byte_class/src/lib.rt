@@ -1,5 +1,5 @@
-//! Sets of bytes, the comparisons that test for them, and their printed text. Graphs, codes and the
-//! printers of generated code use them.
+//! Sets of bytes, comparisons that test whether a byte is in a set, and the printed form of sets.
+//! Graphs, codes and the printers of generated code use this crate.
 
 #![tactic(auto)]
 

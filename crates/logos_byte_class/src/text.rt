@@ -7,14 +7,14 @@ use crate::byte_class::ByteClass;
 use std::fmt;
 use std::ops::RangeInclusive;
 
-/// The number of characters in ASCII, which are those below it.
+/// The number of ASCII characters. The characters below this number are ASCII.
 const ASCII: u32 = 128;
 
-/// The control character DEL, the byte after the last one that prints as itself.
+/// The control character DEL. It follows the greatest byte that prints as itself.
 const DELETE: u8 = 127;
 
-/// Returns the character that follows `\` if `byte` prints as an escape with one character, and
-/// `None` otherwise.
+/// Returns the character after the `\` if `byte` prints as an escape with one character, and `None`
+/// otherwise.
 pub fn letter_of(byte: u8) -> Option<char>
     ensures is { result ≡ letter_of byte }
     ensures ascii { IfSome result (λ letter. letter < ASCII) }
@@ -38,7 +38,7 @@ pub fn is_printable(byte: u8) -> bool
     (32..DELETE).contains(&byte)
 }
 
-/// Returns the hexadecimal digit of `value`, which must be below 16, in lower case.
+/// Returns the lowercase hexadecimal digit of `value`, which must be less than 16.
 pub fn lower_digit(value: u8) -> char
     requires { value < 16 }
     ensures is { result ≡ lower_digit value }

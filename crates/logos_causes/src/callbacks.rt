@@ -1,5 +1,6 @@
-//! Warns of probable mistakes in callbacks: tokens that a closure loses or that exit another
-//! function, and tokens that were probably not meant as a callback. Used by `explanation`.
+//! Warns about probable mistakes in callbacks: tokens that a closure loses, tokens that exit the
+//! function around the closure, and tokens that were probably not meant as a callback. Used by
+//! `explanation`.
 
 ghost use Rattle.std.specs.Prelude.{◌≡◌, OnOk};
 ghost use Rattle.logos_causes.specs.Views.{AddsEach, IsOfCallback, callback_text};
@@ -13,7 +14,7 @@ use logos_token::util::begins_with;
 use logos_warnings::fixed_warning;
 use std::alloc::Global;
 
-/// The thing to which a callback belongs: a leaf, or the error type.
+/// The owner of a callback: a leaf or the error type.
 #[derive(Clone, Copy)]
 pub(crate) enum CallbackOwner {
     Leaf,
@@ -27,7 +28,7 @@ pub(crate) enum CallbackMistake {
     OptionName,
     /// The callback is neither the path of a function nor a closure.
     NoFunction,
-    /// The body of a closure ends before its argument ends.
+    /// The body of a closure ends before the argument that contains the closure.
     Dropped,
     /// The body of a closure loses the brackets or parentheses around it.
     NoBrackets,
@@ -47,8 +48,8 @@ struct FoundMistake {
     help: &'static str,
 }
 
-/// Appends to `warnings` those about the callbacks of `leaves`, in order. `tokens` are those of the
-/// source.
+/// Appends the warnings about the callbacks of `leaves` to `warnings`, in order. `tokens` are the
+/// tokens of the source.
 pub(crate) fn add_callbacks(
     alloc: Global,
     tokens: Tokens<'_, '_>,
@@ -73,8 +74,8 @@ pub(crate) fn add_callbacks(
     Ok(())
 }
 
-/// Returns the index of the next closure after `callback`: `next`, the index before the callback,
-/// plus one if the callback is a closure.
+/// Returns the index of the first closure after `callback`. This is `next`, the index of the first
+/// closure from `callback` on, plus one if `callback` is a closure.
 fn after_callback(callback: Option<&Callback<'_>>, next: usize) -> usize {
     match callback {
         Some(Callback::Inline(_)) => next.saturating_add(1),
@@ -82,8 +83,8 @@ fn after_callback(callback: Option<&Callback<'_>>, next: usize) -> usize {
     }
 }
 
-/// Appends to `warnings` those about the callback for errors, unless it is `None`. `tokens` are
-/// those of the source.
+/// Appends the warnings about the callback for errors to `warnings`, or nothing if `callback` is
+/// `None`. `tokens` are the tokens of the source.
 pub(crate) fn add_error_callback(
     alloc: Global,
     tokens: Tokens<'_, '_>,
@@ -105,8 +106,9 @@ pub(crate) fn add_error_callback(
     )
 }
 
-/// Appends to `warnings` those about the callback of `owner`, unless it is `None`. If the callback
-/// is a closure, `run` begins with it, or is `None` if the closure was not found.
+/// Appends the warnings about the callback of `owner` to `warnings`, or nothing if `callback` is
+/// `None`. If the callback is a closure, `run` begins with the closure, or is `None` if the closure
+/// was not found.
 fn add_callback(
     owner: CallbackOwner,
     callback: Option<&Callback<'_>>,
@@ -122,7 +124,7 @@ fn add_callback(
     }
 }
 
-/// Appends to `warnings` the warning about the mistake `found`, unless it is `None`.
+/// Appends the warning about the mistake `found` to `warnings`, or nothing if `found` is `None`.
 fn add_found(found: Option<FoundMistake>, warnings: &mut Vec<Warning>) -> Result<(), Memory>
     ensures { OnOk result (AddsEach IsOfCallback warnings.old.items warnings.new.items) }
 {
@@ -162,8 +164,8 @@ fn callback_text(mistake: CallbackMistake) -> &'static str
 
 const PATH: &str = "write the path of a function, or a closure with one parameter, as `|lex| ..`";
 
-/// Returns the mistake of a callback of `owner` that is not a closure, if it has one. `label` are
-/// the tokens of the callback.
+/// Returns the mistake in a callback of `owner` that is not a closure, if there is one. `label`
+/// contains the tokens of the callback.
 fn label_mistake(owner: CallbackOwner, label: Tokens<'_, '_>) -> Option<FoundMistake> {
     let span = label.span();
     if names_option(label) {
@@ -183,7 +185,8 @@ fn label_mistake(owner: CallbackOwner, label: Tokens<'_, '_>) -> Option<FoundMis
     })
 }
 
-/// Returns the help for `label`, the name of an argument without a value, as a callback of `owner`.
+/// Returns the help for a callback of `owner` that is the name of an argument without a value.
+/// `label` contains the name.
 fn help_for_option(owner: CallbackOwner, label: Tokens<'_, '_>) -> &'static str {
     match owner {
         CallbackOwner::Leaf => "write its value, as in `priority = 3` or `ignore(case)`",
@@ -191,7 +194,8 @@ fn help_for_option(owner: CallbackOwner, label: Tokens<'_, '_>) -> &'static str 
     }
 }
 
-/// Returns the help for `label`, a callback of `owner` that is neither a path nor a closure.
+/// Returns the help for a callback of `owner` that is neither a path nor a closure. `label`
+/// contains the tokens of the callback.
 fn help_for_label(owner: CallbackOwner, label: Tokens<'_, '_>) -> &'static str {
     match owner {
         CallbackOwner::Leaf => help_for_leaf(label),
@@ -199,8 +203,8 @@ fn help_for_label(owner: CallbackOwner, label: Tokens<'_, '_>) -> &'static str {
     }
 }
 
-/// Returns the help for `label`, a callback of an error type that names no function. The only
-/// argument of an error type that has a name is `callback`.
+/// Returns the help for a callback of an error type that does not name a function. `label` contains
+/// the tokens of the callback. The only named argument of an error type is `callback`.
 fn help_for_error(label: Tokens<'_, '_>) -> &'static str {
     match label.first() {
         Some(TokenTree::Ident(name)) if name.text == "callback" => {
@@ -210,8 +214,8 @@ fn help_for_error(label: Tokens<'_, '_>) -> &'static str {
     }
 }
 
-/// Returns the help for `label`, a callback of a leaf that is neither a path nor a closure. Its
-/// first token decides.
+/// Returns the help for a callback of a leaf that is neither a path nor a closure. The help depends
+/// on the first token of `label`, the tokens of the callback.
 fn help_for_leaf(label: Tokens<'_, '_>) -> &'static str {
     match label.first() {
         Some(TokenTree::Ident(name)) if is_option(name.text) => {
@@ -227,7 +231,7 @@ fn help_for_leaf(label: Tokens<'_, '_>) -> &'static str {
     }
 }
 
-/// Returns whether `label` consists of the name of an argument alone.
+/// Returns whether `label` consists only of the name of an argument.
 fn names_option(label: Tokens<'_, '_>) -> bool {
     match label.first() {
         Some(TokenTree::Ident(name)) => label.rest().is_empty() & is_option(name.text),
@@ -235,14 +239,14 @@ fn names_option(label: Tokens<'_, '_>) -> bool {
     }
 }
 
-/// Returns whether a name is that of an argument of a pattern, or one of two that are often taken
-/// for it: `ignore_case` and `ignore_ascii_case`.
+/// Returns whether `name` is the name of an argument of a pattern, or one of two names that are
+/// often mistaken for such a name: `ignore_case` and `ignore_ascii_case`.
 fn is_option(name: &str) -> bool {
     let is_argument = (name == "priority") | (name == "callback") | (name == "allow_greedy");
     is_argument | (name == "ignore") | (name == "ignore_case") | (name == "ignore_ascii_case")
 }
 
-/// Returns whether all of `label` can be the path of a function.
+/// Returns whether the tokens `label` can be the path of a function.
 fn is_path(label: Tokens<'_, '_>) -> bool {
     let mut rest = label;
     while let Some(tree) = rest.first() {
@@ -254,7 +258,8 @@ fn is_path(label: Tokens<'_, '_>) -> bool {
     begins_path(label)
 }
 
-/// Returns whether `label` begins like a path: with a name other than `move`, a `:` or a `<`.
+/// Returns whether `label` begins like a path: with a name other than `move`, with `:`, or with
+/// `<`.
 fn begins_path(label: Tokens<'_, '_>) -> bool {
     match label.first() {
         Some(TokenTree::Ident(name)) => name.text != "move",
@@ -263,7 +268,7 @@ fn begins_path(label: Tokens<'_, '_>) -> bool {
     }
 }
 
-/// Returns whether a token can be a part of the path of a function, including the types in it.
+/// Returns whether a token can be a part of the path of a function, or of a type in such a path.
 fn is_path_part(tree: TokenTree<'_, '_>) -> bool {
     match tree {
         TokenTree::Ident(_) => true,
@@ -273,8 +278,9 @@ fn is_path_part(tree: TokenTree<'_, '_>) -> bool {
     }
 }
 
-/// Appends to `warnings` those about a closure, first about the tokens of its body that exit the
-/// function around it. `run` begins with the closure, or is `None` if the closure was not found.
+/// Appends the warnings about a closure to `warnings`, beginning with the warnings about tokens of
+/// the body that exit the function around the closure. `run` begins with the closure, or is `None`
+/// if the closure was not found.
 fn add_closure(
     closure: &InlineCallback<'_>,
     run: Option<Tokens<'_, '_>>,
@@ -286,8 +292,8 @@ fn add_closure(
     add_found(closure_mistake(closure.span.to, run), warnings)
 }
 
-/// Returns the mistake in the body of the closure with which `run` begins and which ends at the
-/// byte offset `to` in the source. Returns `None` if there is no mistake or no run.
+/// Returns the mistake in the body of a closure, or `None` if there is no mistake or no run. `run`
+/// begins with the closure, which ends at the byte offset `to` in the source.
 fn closure_mistake(to: usize, run: Option<Tokens<'_, '_>>) -> Option<FoundMistake> {
     match run {
         Some(run) => body_mistake(to, after_bars(run)),
@@ -295,14 +301,14 @@ fn closure_mistake(to: usize, run: Option<Tokens<'_, '_>>) -> Option<FoundMistak
     }
 }
 
-/// Returns the tokens after the parameter of the closure with which `closure` begins, and after the
-/// bars around the parameter.
+/// Returns the tokens after the parameter of a closure and after the bars around the parameter.
+/// `closure` begins with the closure.
 fn after_bars<'t, 's>(closure: Tokens<'t, 's>) -> Tokens<'t, 's> {
     closure.rest().rest().rest()
 }
 
-/// Returns the mistake in the body with which `body` begins, if there is one. Its closure ends at
-/// the byte offset `to` in the source.
+/// Returns the mistake in the body of a closure, if there is one. `body` begins with the body, and
+/// the closure ends at the byte offset `to` in the source.
 fn body_mistake(to: usize, body: Tokens<'_, '_>) -> Option<FoundMistake> {
     match body.first() {
         Some(TokenTree::Group(group)) => group_mistake(to, group, body.rest()),
@@ -313,8 +319,9 @@ fn body_mistake(to: usize, body: Tokens<'_, '_>) -> Option<FoundMistake> {
 
 const BRACES: &str = "put all of the body in braces";
 
-/// Returns the mistake in a body that begins with `group`, if there is one: tokens of `rest`, the
-/// tokens after the group, before the byte offset `to`, or delimiters of the group that matter.
+/// Returns the mistake in a body that begins with `group`, if there is one. Either the closure
+/// drops the tokens of `rest` before the byte offset `to`, or the group changes its meaning because
+/// it loses its delimiters. `rest` contains the tokens after the group.
 fn group_mistake(to: usize, group: Group<'_, '_>, rest: Tokens<'_, '_>) -> Option<FoundMistake> {
     if let Some(span) = dropped(to, rest) {
         return Some(FoundMistake {
@@ -334,7 +341,7 @@ fn group_mistake(to: usize, group: Group<'_, '_>, rest: Tokens<'_, '_>) -> Optio
 }
 
 /// Returns the span from the first token of `run` to the byte offset `to`, or `None` if no token of
-/// `run` begins before that offset.
+/// `run` begins before `to`.
 fn dropped(to: usize, run: Tokens<'_, '_>) -> Option<Span> {
     let from = run.first()?.span().from;
     if from < to {
@@ -344,8 +351,8 @@ fn dropped(to: usize, run: Tokens<'_, '_>) -> Option<Span> {
     }
 }
 
-/// Returns whether a group of the tokens `inside` has another meaning without its delimiters:
-/// whether it is in brackets, or in parentheses with a comma.
+/// Returns whether a group with the tokens `inside` has another meaning without its delimiters.
+/// This holds for a group in brackets, and for a group in parentheses that contains a comma.
 fn loses_brackets(delimiter: Delimiter, inside: Tokens<'_, '_>) -> bool {
     match delimiter {
         Delimiter::Bracket => true,
@@ -367,8 +374,8 @@ fn has_comma(run: Tokens<'_, '_>) -> bool {
 }
 
 /// Returns the mistake in a body that begins with `->` and the type of its value, or `None` for any
-/// other body. `first` is the first token of the body, `rest` are the tokens after it, and the
-/// closure ends at the byte offset `to` in the source.
+/// other body. `first` is the first token of the body, `rest` contains the tokens after `first`,
+/// and the closure ends at the byte offset `to` in the source.
 fn type_mistake(to: usize, first: Punct, rest: Tokens<'_, '_>) -> Option<FoundMistake> {
     let from = first.span.from;
     if (first.character == '-') & begins_with('>', rest) {
@@ -381,8 +388,8 @@ fn type_mistake(to: usize, first: Punct, rest: Tokens<'_, '_>) -> Option<FoundMi
     None
 }
 
-/// Appends to `warnings` one for each `return` and `?` of `body` outside of its groups, which exit
-/// the function around the closure.
+/// Appends a warning to `warnings` for each `return` and each `?` in `body` outside of its groups.
+/// Such a token exits the function around the closure.
 fn add_escapes(body: Tokens<'_, '_>, warnings: &mut Vec<Warning>) -> Result<(), Memory>
     ensures { OnOk result (AddsEach IsOfCallback warnings.old.items warnings.new.items) }
 {

@@ -1,12 +1,12 @@
-//! Finds the closures of a source among its tokens. Called by `callbacks`, once for all leaves and
-//! once for errors.
+//! Finds the closures of a source among its tokens. Called by `callbacks`, once for the callbacks
+//! of all leaves and once for the callback for errors.
 
 use logos_pattern::leaf::{Callback, Leaf};
 use logos_token::token::{TokenTree, Tokens};
 use std::alloc::{AllocError, Global};
 
-/// Returns the byte offset in the source at which `callback` begins if it is a closure, otherwise
-/// `None`.
+/// Returns the byte offset at which the closure `callback` begins in the source, or `None` if
+/// `callback` is not a closure.
 pub(crate) fn closure_start(callback: Option<&Callback<'_>>) -> Option<usize> {
     match callback {
         Some(Callback::Inline(closure)) => Some(closure.span.from),
@@ -26,9 +26,9 @@ pub(crate) fn closure_starts(alloc: Global, leaves: &[Leaf<'_>]) -> Result<Vec<u
     Ok(starts)
 }
 
-/// Returns the runs of a source with the tokens `tokens` whose first tokens begin at the byte
-/// offsets `starts`, which ascend. Each run extends to the end of the group or the source that
-/// contains it. The runs end before the first offset at which no token begins.
+/// Returns the runs of tokens that begin at the byte offsets `starts` in a source. `tokens` are the
+/// tokens of the source, and the offsets ascend. Each run extends to the end of the group or the
+/// source that contains it. The result ends before the first offset at which no token begins.
 pub(crate) fn runs_at<'t, 's>(
     alloc: Global,
     tokens: Tokens<'t, 's>,
@@ -39,8 +39,8 @@ pub(crate) fn runs_at<'t, 's>(
     Ok(runs)
 }
 
-/// Appends to `runs` the runs within `run` and its groups that begin at the next offsets: those of
-/// `starts` from the index `runs.len()` on.
+/// Searches `run` and its groups for the runs that begin at the next offsets, and appends these
+/// runs to `runs`. The next offsets are the elements of `starts` from the index `runs.len()` on.
 #[cycle(search)]
 fn search_run<'t, 's>(
     run: Tokens<'t, 's>,
@@ -55,8 +55,8 @@ fn search_run<'t, 's>(
     Ok(())
 }
 
-/// Appends `run` to `runs` if its first token begins at the next offset, which is at the index
-/// `runs.len()` of `starts`. If that token is a group, also appends the runs in the group.
+/// Appends `run` to `runs` if its first token begins at the next offset, the element of `starts` at
+/// the index `runs.len()`. If the first token is a group, also appends the runs in the group.
 #[cycle(search)]
 fn search_first<'t, 's>(
     run: Tokens<'t, 's>,
@@ -70,8 +70,8 @@ fn search_first<'t, 's>(
     }
 }
 
-/// Appends `run` to `runs` if its first token begins at the next offset, which is at the index
-/// `runs.len()` of `starts`.
+/// Appends `run` to `runs` if its first token begins at the next offset, the element of `starts` at
+/// the index `runs.len()`.
 fn add_if_next<'t, 's>(
     run: Tokens<'t, 's>,
     starts: &[usize],

@@ -1,5 +1,5 @@
-//! Explains the faults of a refused source, and warns about a lexer. Called by the programs and the
-//! derive macro.
+//! Explains the faults of a refused source, and finds the warnings for a lexer. Called by the
+//! programs and the derive macro.
 
 ghost use Rattle.std.specs.Prelude.{◌≡◌, ◌≢◌, ◌≤◌, [], IfOk, OnOk};
 ghost use Rattle.logos_causes.specs.Views.{AddsEach, AreOfLexer, IsOfLexer, YieldsEnum, HasSets, IsRefusal, LeavesHaveSets, Spells, delimiter_limit, depth_of, enum_value, run_span, set_sizes, sizes_of, tokens_of};
@@ -19,17 +19,17 @@ use logos_warnings::{Origin, item_warnings, token_warnings};
 use std::alloc::{AllocError, Global};
 use std::mem;
 
-/// The clues about a refused source, and its warnings.
+/// The clues about the faults of a source, and the warnings for the source.
 #[derive(Debug, Drop)]
 pub struct Explained {
-    /// The clues about the faults of the source's graph, without helps.
+    /// The clues about the faults of the source's graph, without help texts.
     pub clues: Clues,
     /// The warnings for the source.
     pub warnings: Vec<Warning>,
 }
 
 impl Explained {
-    /// Returns the empty explanation, that of a source which cannot be read as an enum.
+    /// Returns the empty explanation of a source that cannot be read as an enum.
     fn nothing(alloc: Global) -> Explained
         ensures { sizes_of result.clues ≡ [] }
     {
@@ -40,8 +40,8 @@ impl Explained {
     }
 }
 
-/// Returns the clues about the faults of the graph of a refused source, and the warnings for its
-/// callbacks. Both are empty if the source cannot be read as an enum.
+/// Returns the clues about the faults of the graph of a refused source, and the warnings for the
+/// callbacks of the source. Both are empty if the source cannot be read as an enum.
 ///
 /// # Errors
 ///
@@ -53,9 +53,11 @@ pub fn explain(alloc: Global, source: &str) -> Result<Explained, Memory>
     explain_source(alloc, source, None)
 }
 
-/// Returns the clues of `explain`, and all warnings for the enum that the source spells, which
-/// derives `Logos`: those of `enum_warnings`, and then those of `explain`. Both are empty if the
-/// source cannot be read as an enum. The enum is read only once.
+/// Returns the clues of `explain`, and all warnings for an enum that derives `Logos`. `source` is
+/// the text of the enum.
+///
+/// The warnings of `enum_warnings` come first, followed by the warnings of `explain`. There are no
+/// clues and no warnings if the source cannot be read as an enum. The enum is read only once.
 ///
 /// # Errors
 ///
@@ -67,8 +69,8 @@ pub fn explain_enum(alloc: Global, source: &str, origin: Origin) -> Result<Expla
     explain_source(alloc, source, Some(origin))
 }
 
-/// Returns the explanation of a source. Unless `origin` is `None`, it begins with the warnings of
-/// `enum_warnings`.
+/// Returns the explanation of a source. The explanation begins with the warnings of `enum_warnings`
+/// unless `origin` is `None`.
 fn explain_source(alloc: Global, source: &str, origin: Option<Origin>) -> Result<Explained, Memory>
     ensures { IfOk result (λ known. HasSets source.now (sizes_of known.clues)) }
 {
@@ -78,8 +80,8 @@ fn explain_source(alloc: Global, source: &str, origin: Option<Origin>) -> Result
     }
 }
 
-/// Returns the explanation of a source that could not be read into tokens, which is empty. Returns
-/// `Memory` if memory ran out.
+/// Returns the empty explanation of a source that could not be read into tokens, or `Memory` if
+/// memory ran out.
 fn explain_unreadable(alloc: Global, source: &str, error: TokenError) -> Result<Explained, Memory>
     requires { IsRefusal source.now error }
     ensures { IfOk result (λ known. HasSets source.now (sizes_of known.clues)) }
@@ -92,8 +94,8 @@ fn explain_unreadable(alloc: Global, source: &str, error: TokenError) -> Result<
     }
 }
 
-/// Returns the explanation of a source with the tokens `tokens`. Unless `origin` is `None`, it
-/// begins with the warnings of `enum_warnings`.
+/// Returns the explanation of a source with the tokens `tokens`. The explanation begins with the
+/// warnings of `enum_warnings` unless `origin` is `None`.
 fn explain_tokens(
     alloc: Global,
     source: &str,
@@ -110,8 +112,8 @@ fn explain_tokens(
     }
 }
 
-/// Returns the explanation of tokens that could not be read as an enum, which is empty. Returns
-/// `Memory` if memory ran out.
+/// Returns the empty explanation of tokens that could not be read as an enum, or `Memory` if memory
+/// ran out.
 fn explain_misread(alloc: Global, error: ReadError) -> Result<Explained, Memory>
     ensures known { IfOk result (λ known. sizes_of known.clues ≡ []) }
     ensures fault { IfOk result (λ known. error ≢ ReadError.Memory) }
@@ -132,8 +134,9 @@ struct EnumText<'t, 's> {
     tokens: Tokens<'t, 's>,
 }
 
-/// Returns the clues about the faults of the graph of the enum `item`, and its warnings, which
-/// begin with those of `enum_warnings` unless `origin` is `None`. `text` spells the enum.
+/// Returns the clues about the faults of the graph of the enum `item`, and the warnings for the
+/// enum. The warnings begin with the warnings of `enum_warnings` unless `origin` is `None`. `text`
+/// is the text of the enum.
 fn explain_item(
     alloc: Global,
     text: EnumText<'_, '_>,
@@ -148,8 +151,8 @@ fn explain_item(
     Ok(Explained { clues, warnings })
 }
 
-/// Returns the warnings of `enum_warnings` for `item`, which derives `Logos`, or none if `origin`
-/// is `None`.
+/// Returns the warnings of `enum_warnings` for `item`, an enum that derives `Logos`, or no warnings
+/// if `origin` is `None`.
 fn known_warnings(
     alloc: Global,
     item: &ItemEnum<'_, '_>,
@@ -161,8 +164,8 @@ fn known_warnings(
     }
 }
 
-/// Returns the clues about the faults of the graph of the enum `item`, which `text` spells. Appends
-/// the warnings for its callbacks to `warnings`.
+/// Returns the clues about the faults of the graph of the enum `item`, and appends the warnings for
+/// the callbacks of the enum to `warnings`. `text` is the text of the enum.
 fn clues_in(
     alloc: Global,
     text: EnumText<'_, '_>,
@@ -183,8 +186,9 @@ fn clues_in(
     }
 }
 
-/// Returns the clues about the faults of the graph of an analysis, whose leaves are taken out.
-/// Appends the warnings for its callbacks to `warnings`. `tokens` are those of the source.
+/// Takes the leaves out of an analysis, and returns the clues about the faults of their graph.
+/// Appends the warnings for the callbacks of the analysis to `warnings`. `tokens` are the tokens of
+/// the source.
 fn clues_of_analysis(
     alloc: Global,
     tokens: Tokens<'_, '_>,
@@ -201,7 +205,7 @@ fn clues_of_analysis(
     clues_of_leaves(alloc, leaves_of(alloc, analysis), utf8_mode)
 }
 
-/// Returns the callback for errors of an analysis, or `None` if there is none.
+/// Returns the callback for errors of an analysis, or `None` if the analysis has no such callback.
 fn callback_of<'a, 's>(analysis: &'a Analysis<'s>) -> Option<&'a Callback<'s>> {
     match &analysis.parser.error_type {
         Some(error) => error.callback.as_ref(),
@@ -209,15 +213,15 @@ fn callback_of<'a, 's>(analysis: &'a Analysis<'s>) -> Option<&'a Callback<'s>> {
     }
 }
 
-/// Returns the leaves of an analysis, and leaves it without leaves.
+/// Takes the leaves out of an analysis and returns them.
 fn leaves_of<'s>(alloc: Global, analysis: &mut Analysis<'s>) -> Vec<Leaf<'s>>
     ensures { result ≡ analysis.old.leaves }
 {
     mem::replace(&mut analysis.leaves, Vec::new(alloc))
 }
 
-/// Returns the clues about the faults of the graph of `leaves`. They are empty if a limit prevents
-/// the construction of the graph.
+/// Returns the clues about the faults of the graph of `leaves`. The clues are empty if a limit
+/// prevents the construction of the graph.
 fn clues_of_leaves(alloc: Global, leaves: Vec<Leaf<'_>>, utf8_mode: bool) -> Result<Clues, Memory>
     ensures { IfOk result (λ clues. LeavesHaveSets leaves.entry.items (sizes_of clues)) }
 {
@@ -229,7 +233,7 @@ fn clues_of_leaves(alloc: Global, leaves: Vec<Leaf<'_>>, utf8_mode: bool) -> Res
     }
 }
 
-/// Returns the clues about the faults of a graph, without helps.
+/// Returns the clues about the faults of a graph, without help texts.
 fn clues_of(alloc: Global, graph: &Graph<'_>) -> Result<Clues, AllocError>
     ensures { IfOk result (λ clues. sizes_of clues ≡ set_sizes graph.now.faults) }
 {
@@ -240,9 +244,10 @@ fn clues_of(alloc: Global, graph: &Graph<'_>) -> Result<Clues, AllocError>
     })
 }
 
-/// Returns the warnings for an enum without faults, which has the tokens `tokens` and derives
-/// `Logos`: first those of `enum_warnings`, then those for the callbacks of its lexer, beginning
-/// with the callback for errors, and then those for leaves that are never found.
+/// Returns the warnings for an enum without faults that derives `Logos` and has the tokens
+/// `tokens`. The warnings of `enum_warnings` come first, then the warnings for the callbacks of the
+/// lexer, beginning with the callback for errors, and last the warnings for leaves that are never
+/// found.
 ///
 /// # Errors
 ///
@@ -261,8 +266,8 @@ pub fn accepted_warnings(
     Ok(warnings)
 }
 
-/// Appends to `warnings` those for the callbacks of a lexer, and those for leaves that are never
-/// found. `tokens` are those of its source.
+/// Appends the warnings for the callbacks of a lexer to `warnings`, and then the warnings for
+/// leaves that are never found. `tokens` are the tokens of the lexer's source.
 fn add_of_lexer(
     alloc: Global,
     tokens: Tokens<'_, '_>,

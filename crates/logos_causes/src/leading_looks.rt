@@ -18,7 +18,7 @@ pub(crate) fn starts_of(alloc: Global, leaves: &[Leaf<'_>]) -> Result<Vec<Start>
     Ok(starts)
 }
 
-/// Appends the pattern of `leaf` to `starts` if it can examine the bytes before its start.
+/// Appends the pattern of `leaf` to `starts` if the pattern can examine the bytes before its start.
 fn add_start(alloc: Global, leaf: &Leaf<'_>, starts: &mut Vec<Start>) -> Result<(), AllocError> {
     if !looks_first(leaf) {
         return Ok(());

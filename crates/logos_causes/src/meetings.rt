@@ -1,4 +1,5 @@
-//! The clues about the sets of ambiguous leaves of a graph. Used by `explanation`.
+//! Finds the clues about the sets of ambiguous leaves of a graph. The leaves of a set meet on a
+//! text if exactly these leaves match the text with the highest priority. Used by `explanation`.
 
 ghost use Rattle.std.specs.Prelude.{◌≡◌, ◌≤◌, ◌++◌, ◌∷◌, [], IfOk, IsTrue, OnOk, length, map};
 ghost use Rattle.std.specs.List.Sorted.{IsStrictlyIncreasing};
@@ -14,7 +15,7 @@ use logos_pattern::leaf::Leaf;
 use logos_report::Meeting;
 use std::alloc::{AllocError, Global};
 
-/// The maximum number of sets for which a text is searched on which their leaves meet.
+/// The maximum number of searches for a text that all leaves of a set match.
 const SEARCHED: usize = 10;
 
 /// Returns the clues about the sets of ambiguous leaves of a graph, in order, one for each set.
@@ -29,8 +30,8 @@ pub(crate) fn meetings_of(alloc: Global, graph: &Graph<'_>) -> Result<Vec<Meetin
     Ok(meetings)
 }
 
-/// Appends to `meetings` the clue about the set of ambiguous leaves that `fault` names, if it names
-/// such a set.
+/// Appends the clue about the set of ambiguous leaves in `fault` to `meetings`, or nothing if
+/// `fault` is not about ambiguous leaves.
 fn add_fault(
     alloc: Global,
     graph: &Graph<'_>,
@@ -47,7 +48,7 @@ fn add_fault(
     }
 }
 
-/// Appends to `meetings` the clue about the set of ambiguous leaves `leaves`.
+/// Appends the clue about the set of ambiguous leaves `leaves` to `meetings`.
 fn add_set(
     alloc: Global,
     graph: &Graph<'_>,
@@ -75,8 +76,8 @@ fn numbers_of(alloc: Global, leaves: &[LeafId]) -> Result<Vec<usize>, AllocError
     Ok(set)
 }
 
-/// Returns the clue about the set of ambiguous leaves with the numbers `set`. A text on which they
-/// meet is searched only if `is_searched` is set.
+/// Returns the clue about the set of ambiguous leaves with the numbers `set`. A text that all of
+/// these leaves match is searched for only if `is_searched` is `true`.
 fn meeting_of(
     alloc: Global,
     graph: &Graph<'_>,
@@ -91,7 +92,7 @@ fn meeting_of(
     })
 }
 
-/// Returns the names of those of `leaves` that have the numbers `set`, in the order of the numbers.
+/// Returns the names of the leaves in `leaves` with the numbers `set`, in the order of the numbers.
 fn names_of(alloc: Global, leaves: &[Leaf<'_>], set: &[usize]) -> Result<Vec<String>, AllocError>
     ensures { IfOk result (λ names. length names.items ≡ length set.now) }
 {
@@ -112,9 +113,10 @@ fn name_at(alloc: Global, leaves: &[Leaf<'_>], number: usize) -> Result<String, 
     String::from_str(alloc, name)
 }
 
-/// Returns the note about the set of ambiguous leaves with the numbers `set`: a text on which they
-/// meet, their priority, and the one that would decide. A general phrase takes the place of the
-/// text if none is found or `is_searched` is not set.
+/// Returns the note about the set of ambiguous leaves with the numbers `set`. The note contains a
+/// text that all of these leaves match, the priority of the leaves, and the priority that would
+/// decide between them. If no such text is found or `is_searched` is `false`, the note contains a
+/// general phrase instead of the text.
 fn note_of(
     alloc: Global,
     graph: &Graph<'_>,
@@ -136,8 +138,9 @@ fn note_of(
     page.finish()
 }
 
-/// Returns the priority of a set of ambiguous leaves, which all have that of the first, or 0 if
-/// there is no such leaf.
+/// Returns the priority of the leaves with the numbers `set`, a set of ambiguous leaves, or 0 if
+/// the first of them does not exist. All leaves of the set have the same priority as the first
+/// leaf.
 fn priority_of(leaves: &[Leaf<'_>], set: &[usize]) -> usize {
     let Some(first) = set.first() else {
         return 0;
@@ -148,8 +151,8 @@ fn priority_of(leaves: &[Leaf<'_>], set: &[usize]) -> usize {
     }
 }
 
-/// Appends the priority of a set of ambiguous leaves, and the lowest one that would decide between
-/// them.
+/// Appends the priority of a set of ambiguous leaves, and the lowest priority that would decide
+/// between the leaves.
 fn push_priority(page: &mut Page, priority: usize) {
     page.push(" with priority ");
     page.push_number(priority);
@@ -158,8 +161,9 @@ fn push_priority(page: &mut Page, priority: usize) {
     page.push(" would decide");
 }
 
-/// Appends the text on which exactly the leaves with the numbers `set` meet in a shortest input,
-/// and the rest of that input. Appends a general phrase if no such input is found.
+/// Appends a shortest input with a prefix on which exactly the leaves with the numbers `set` meet:
+/// first the prefix, and then the rest of the input. Appends a general phrase if no such input is
+/// found.
 fn push_text(
     alloc: Global,
     page: &mut Page,
@@ -180,7 +184,7 @@ fn push_text(
 }
 
 /// Returns a shortest input with a prefix on which exactly the leaves with the numbers `set` meet.
-/// Returns `None` if there is none, or the numbers are none or do not ascend.
+/// Returns `None` if there is no such input, if `set` is empty, or if the numbers do not ascend.
 fn text_of(alloc: Global, graph: &Graph<'_>, set: &[usize]) -> Result<Option<Vec<u8>>, AllocError> {
     if set.is_empty() {
         return Ok(None);
@@ -192,7 +196,7 @@ fn text_of(alloc: Global, graph: &Graph<'_>, set: &[usize]) -> Result<Option<Vec
     Ok(found)
 }
 
-/// Returns whether the numbers of `set` ascend, without equal ones.
+/// Returns whether the numbers in `set` are in strictly ascending order.
 fn ascends(set: &[usize]) -> bool
     ensures { IsTrue result → IsStrictlyIncreasing set.now }
 {
@@ -206,8 +210,8 @@ fn ascends(set: &[usize]) -> bool
     true
 }
 
-/// Appends the text on which leaves meet, which is the prefix of `input` up to `end`, and the rest
-/// of `input`, if it is not empty.
+/// Appends the prefix of `input` up to `end`, on which leaves meet, and the rest of `input` unless
+/// the rest is empty.
 fn push_found(page: &mut Page, input: &[u8], end: usize)
     requires { end ≤ length input.now }
 {
@@ -218,9 +222,8 @@ fn push_found(page: &mut Page, input: &[u8], end: usize)
     }
 }
 
-/// Returns the first offset in the input at which matches of exactly the leaves with the numbers
-/// `set` end, or `usize::MAX` if there is none. `matches` are all matches from the beginning of the
-/// input.
+/// Returns the end of the first text on which exactly the leaves with the numbers `set` meet, or
+/// `usize::MAX` if there is none. `matches` contains all matches from the beginning of the input.
 fn end_of(matches: &[Match], set: &[usize]) -> usize {
     for one in matches {
         if is_first(*one, set) && is_met(matches, *one, set) {
@@ -238,8 +241,9 @@ fn is_first(one: Match, set: &[usize]) -> bool {
     }
 }
 
-/// Returns whether exactly the leaves with the numbers `set` have a match that ends with `one` and
-/// has at least its priority.
+/// Returns whether exactly the leaves with the numbers `set` have a match that ends where `one`
+/// ends and has at least the priority of `one`. `matches` contains all matches from the beginning
+/// of the input.
 fn is_met(matches: &[Match], one: Match, set: &[usize]) -> bool {
     let mut count: usize = 0;
     for other in matches {

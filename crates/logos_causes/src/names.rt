@@ -13,7 +13,7 @@ pub(crate) fn name_of<'l>(leaf: &'l Leaf<'_>) -> &'l str {
     }
 }
 
-/// Returns a text made of `front`, the name of a leaf and `back`.
+/// Returns the concatenation of `front`, the name of a leaf and `back`.
 pub(crate) fn text_with(
     alloc: Global,
     front: &str,

@@ -6,8 +6,8 @@ use std::str;
 /// The maximum number of bytes of an input that are shown.
 const MOST: usize = 60;
 
-/// Appends at most the first 60 of `bytes` in quotes: as a text if all of `bytes` are UTF-8,
-/// otherwise as numbers. If some are left out, `..` follows.
+/// Appends at most the first 60 bytes of `bytes` in quotes, as a text if all of `bytes` is UTF-8,
+/// and as numbers otherwise. If bytes are left out, `..` follows the last one that is shown.
 pub(crate) fn push_quoted(page: &mut Page, bytes: &[u8]) {
     page.push("\"");
     match str::from_utf8(bytes) {
@@ -17,8 +17,8 @@ pub(crate) fn push_quoted(page: &mut Page, bytes: &[u8]) {
     page.push("\"");
 }
 
-/// Appends a text in the form in which it is shown on a terminal. If it has more than `MOST` bytes,
-/// appends its front and `..` instead.
+/// Appends a text in the form in which it is shown on a terminal. If the text has more than `MOST`
+/// bytes, appends only its longest prefix of at most `MOST` bytes, and `..`.
 fn push_text(page: &mut Page, text: &str) {
     if text.len() > MOST {
         page.push_shown(front_of(text));
@@ -40,8 +40,8 @@ fn front_of(text: &str) -> &str {
     ""
 }
 
-/// Appends the first `MOST` of `bytes`, each as `\x` and two hexadecimal digits, and `..` if there
-/// are more.
+/// Appends at most the first `MOST` bytes of `bytes`, each as `\x` and two hexadecimal digits, and
+/// `..` if there are more bytes.
 fn push_bytes(page: &mut Page, bytes: &[u8]) {
     for byte in bytes.iter().take(MOST) {
         page.push("\\x");

@@ -1,5 +1,5 @@
-//! Finds the leaves that are never found in an input, and those that hide them. Used by
-//! `explanation`.
+//! Finds the leaves that are never found in any input, and the leaves that are found instead. Used
+//! by `explanation`.
 
 ghost use Rattle.std.specs.Prelude.{◌≡◌, ◌<◌, IfOk, IsTrue, OnOk, length};
 ghost use Rattle.logos_causes.specs.Views.{AddsEach, AreMarks, IsHidden, IsMarked, IsSet};
@@ -16,10 +16,10 @@ use logos_report::Warning;
 use logos_warnings::plain_warning;
 use std::alloc::{AllocError, Global};
 
-/// The maximum number of leaves for which a leaf that hides them is searched.
+/// The maximum number of searches for the leaf that is found instead of a hidden leaf.
 const SEARCHED: usize = 10;
 
-/// Appends to `warnings` one for each leaf of a graph that is never found.
+/// Appends a warning to `warnings` for each leaf of a graph that is never found.
 pub(crate) fn add_hidden(
     alloc: Global,
     graph: &Graph<'_>,
@@ -35,9 +35,9 @@ pub(crate) fn add_hidden(
     Ok(())
 }
 
-/// Appends to `warnings` the one for the leaf `number` if its flag in `marked` is not set, which
-/// means that the leaf is never found. Returns the number of leaves up to this one that have a
-/// warning, of which `count` come before it.
+/// Appends a warning for the leaf with the number `number` to `warnings` if the leaf is never
+/// found, that is, if its flag in `marked` is `false`. `count` is the number of earlier leaves with
+/// a warning. Returns `count`, plus one if a warning was appended.
 fn add_if_hidden(
     graph: &Graph<'_>,
     marked: &[bool],
@@ -57,7 +57,8 @@ fn add_if_hidden(
     Ok(count)
 }
 
-/// Returns whether the leaf `number` has a flag in `marked` that is not set.
+/// Returns whether `marked` has a flag for the leaf with the number `number`, and this flag is
+/// `false`.
 fn is_unmarked(marked: &[bool], number: usize) -> bool
     ensures { IsTrue result → ¬ IsSet marked.now number }
 {
@@ -67,8 +68,8 @@ fn is_unmarked(marked: &[bool], number: usize) -> bool
     false
 }
 
-/// Appends to `warnings` the one for the leaf `number`, which is never found. The warning names the
-/// leaf that is found instead only if `is_searched` is set.
+/// Appends the warning for the leaf with the number `number`, which is never found, to `warnings`.
+/// The warning names the leaf that is found instead only if `is_searched` is `true`.
 fn add_leaf(
     graph: &Graph<'_>,
     number: usize,
@@ -87,8 +88,8 @@ fn add_leaf(
     Ok(())
 }
 
-/// Returns the warning for `hidden`, a leaf of the graph that is never found, with its number. The
-/// warning names the leaf that is found instead only if `is_searched` is set.
+/// Returns the warning for `hidden`, the number of a leaf that is never found and the leaf itself.
+/// The warning names the leaf that is found instead only if `is_searched` is `true`.
 fn hidden_warning(
     alloc: Global,
     graph: &Graph<'_>,
@@ -105,7 +106,8 @@ fn hidden_warning(
     Ok(warning)
 }
 
-/// Returns the warning for a leaf that is never found, without the leaf that is found instead.
+/// Returns the warning for a leaf that is never found. The warning does not name the leaf that is
+/// found instead.
 fn warning_of(alloc: Global, leaf: &Leaf<'_>) -> Result<Warning, AllocError>
     ensures { IfOk result (λ warning. warning.span ≡ leaf.now.span) }
 {
@@ -118,8 +120,9 @@ fn warning_of(alloc: Global, leaf: &Leaf<'_>) -> Result<Warning, AllocError>
     Ok(plain_warning(message, leaf.span, None))
 }
 
-/// Adds to `warning` a text on which another leaf is found instead of the leaf `number`, and the
-/// name and the span of that leaf. Leaves the warning unchanged if no such text exists.
+/// Explains why the leaf with the number `number` is never found. Adds a text on which another leaf
+/// is found instead, and the name and the span of the other leaf, to `warning`. Leaves the warning
+/// unchanged if there is no such text.
 fn explain(
     alloc: Global,
     graph: &Graph<'_>,
@@ -144,9 +147,9 @@ fn explain(
     Ok(())
 }
 
-/// Returns the relation between the patterns of the leaves `one` and `other` as the end of a
-/// sentence: their literals are equal, or they match the same texts. Returns an empty text if
-/// neither holds.
+/// Returns the relation between the patterns of the leaves with the numbers `one` and `other`, as
+/// the end of a sentence: their texts are equal, or they match the same texts. Returns an empty
+/// text if neither holds.
 fn likeness_of(graph: &Graph<'_>, one: usize, other: usize) -> &'static str {
     if is_written_alike(graph.leaves(), one, other) {
         ": its pattern is the same"
@@ -157,7 +160,7 @@ fn likeness_of(graph: &Graph<'_>, one: usize, other: usize) -> &'static str {
     }
 }
 
-/// Returns whether the patterns of the leaves `one` and `other` have equal texts.
+/// Returns whether the patterns of the leaves with the numbers `one` and `other` have equal texts.
 fn is_written_alike(leaves: &[Leaf<'_>], one: usize, other: usize) -> bool {
     match (leaves.get(one), leaves.get(other)) {
         (Some(one), Some(other)) => one.pattern.source() == other.pattern.source(),
@@ -165,8 +168,8 @@ fn is_written_alike(leaves: &[Leaf<'_>], one: usize, other: usize) -> bool {
     }
 }
 
-/// Returns whether the leaves `one` and `other` match exactly the same texts: whether each state
-/// lists both or neither.
+/// Returns whether the leaves with the numbers `one` and `other` match exactly the same texts, that
+/// is, whether each state of `dfa` lists both leaves or neither.
 fn are_twins(dfa: &Dfa, one: usize, other: usize) -> bool {
     for state in dfa.get_states() {
         if parts_leaves(dfa, state, one, other) {
@@ -176,8 +179,8 @@ fn are_twins(dfa: &Dfa, one: usize, other: usize) -> bool {
     true
 }
 
-/// Returns whether `state` lists exactly one of the leaves `one` and `other`. Returns `false` if
-/// `dfa` does not have the state.
+/// Returns whether `state` lists exactly one of the leaves with the numbers `one` and `other`.
+/// Returns `false` if `dfa` does not have the state.
 fn parts_leaves(dfa: &Dfa, state: StateId, one: usize, other: usize) -> bool {
     if !dfa.contains(state) {
         return false;
@@ -186,7 +189,7 @@ fn parts_leaves(dfa: &Dfa, state: StateId, one: usize, other: usize) -> bool {
     lists(matches, one) != lists(matches, other)
 }
 
-/// Returns whether the leaf `number` is among `leaves`.
+/// Returns whether the leaf with the number `number` is in `leaves`.
 fn lists(leaves: Matches<'_>, number: usize) -> bool {
     for leaf in leaves {
         if leaf.0 == number {
@@ -196,8 +199,8 @@ fn lists(leaves: Matches<'_>, number: usize) -> bool {
     false
 }
 
-/// Returns the note which states that on the text `bytes` the leaf `other` is found, with its
-/// priority and with `likeness`, the relation to the leaf that is never found.
+/// Returns the note stating that the leaf `other` is found on the text `bytes`. The note contains
+/// the priority of `other` and `likeness`, the relation of `other` to the leaf that is never found.
 fn note_of(
     alloc: Global,
     bytes: &[u8],

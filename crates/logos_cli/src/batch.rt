@@ -1,4 +1,4 @@
-//! Expands several files into a folder. Used by `program`.
+//! Expands several files into a folder. Called by `program`.
 
 ghost use Rattle.std.specs.Prelude.{◌≡◌, ◌≢◌, ◌⊎◌, ◌≤◌, ◌++◌, ◌∷◌, [], ℕ, All, Contains, IfOk, IsTrue, List, MatchOption, OnOk, drop, false, map, true};
 ghost use Rattle.logos_cli.specs.Views.{Appends, AreCarriedOut, AreDenied, AreTouched, IsApart, IsOwnOutput, Keeps, OrderValue, requests_each, batch_value, batch_file_order, has_twins, is_among, order_into, order_value, orders_into, orders_of, output_text, texts_of};
@@ -12,7 +12,7 @@ use logos_token::error::Memory;
 use std::alloc::Global;
 use std::io::{IsTerminal, Write};
 
-/// A file to expand, with the path of its result.
+/// A file to expand, and the path of its result.
 #[derive(Drop)]
 struct BatchFile<'w> {
     /// The path of the file.
@@ -21,10 +21,11 @@ struct BatchFile<'w> {
     output: String,
 }
 
-/// Expands the files of a batch, and writes each result into the folder, under the name of its
-/// file. With `--check`, the results are only compared. If a file is refused or fails, the others
-/// are still expanded. The exit status is the highest one of all files. If a result would overwrite
-/// an input or another result, the exit status is 2, and nothing is read or written.
+/// Expands the files of a batch. Writes each result into the folder, under the name of the input.
+/// With `--check`, only compares the results with the files in the folder. If a file is refused or
+/// fails, the remaining files are still expanded. The exit status is the highest exit status of all
+/// files. If a result would overwrite an input or another result, the exit status is 2, and nothing
+/// is read or written.
 pub(crate) fn run_batch<F: ComparableFiles, O: Write, E: Write + IsTerminal>(
     alloc: Global,
     batch: Batch<'_>,
@@ -63,7 +64,7 @@ pub(crate) fn run_batch<F: ComparableFiles, O: Write, E: Write + IsTerminal>(
     run_each(alloc, batch.order, &batch_files, files, out, err)
 }
 
-/// Returns the files of a batch, with the paths of their results.
+/// Returns the files of a batch with the paths of their results.
 fn batch_files_of<'w>(alloc: Global, batch: Batch<'w>) -> Result<Vec<BatchFile<'w>>, Memory>
     ensures { IfOk result (λ batch_files.
         orders_of (order_value batch.entry.order) batch_files.items ≡ batch_value batch.entry) }
@@ -72,7 +73,7 @@ fn batch_files_of<'w>(alloc: Global, batch: Batch<'w>) -> Result<Vec<BatchFile<'
     batch_files_at(alloc, batch, &paths)
 }
 
-/// Returns the files at the paths `paths`, with the paths of their results.
+/// Returns the files at the paths `paths` with the paths of their results.
 fn batch_files_at<'w>(
     alloc: Global,
     batch: Batch<'w>,
@@ -89,7 +90,7 @@ fn batch_files_at<'w>(
     Ok(batch_files)
 }
 
-/// Appends the file at `path`, with the path of its result, to `batch_files`.
+/// Appends the file at `path` with the path of its result to `batch_files`.
 fn push_batch_file<'w>(
     batch: Batch<'w>,
     path: &'w str,
@@ -104,7 +105,7 @@ fn push_batch_file<'w>(
     Ok(())
 }
 
-/// Returns the file at the path `input`, with the path of its result in `folder`.
+/// Returns the file at the path `input` with the path of its result in `folder`.
 fn batch_file_of<'w>(alloc: Global, folder: &str, input: &'w str) -> Result<BatchFile<'w>, Memory>
     ensures { IfOk result (λ batch_file. (order : OrderValue) →
         batch_file_order order batch_file ≡ order_into order folder.now input.now) }
@@ -115,7 +116,7 @@ fn batch_file_of<'w>(alloc: Global, folder: &str, input: &'w str) -> Result<Batc
     Ok(BatchFile { input, output })
 }
 
-/// Returns the first path of a result that leads to an input, or `None` if there is none.
+/// Returns the first path of a result that leads to an input, or `None` if no such path does.
 fn own_output_in<'e, F: ComparableFiles>(
     batch_files: &'e [BatchFile<'_>],
     files: &F,
@@ -150,7 +151,7 @@ fn is_input<F: ComparableFiles>(batch_files: &[BatchFile<'_>], path: &str, files
     false
 }
 
-/// Returns the first path that two results share, or `None` if there is none.
+/// Returns the first path that two results share, or `None` if all paths differ.
 fn twin_in<'e>(batch_files: &'e [BatchFile<'_>]) -> Option<&'e str>
     ensures { MatchOption result (has_twins (map output_text batch_files.now) ≡ false)
         (λ path. has_twins (map output_text batch_files.now) ≡ true) }
@@ -211,7 +212,7 @@ fn run_each<F: ComparableFiles, O: Write, E: Write + IsTerminal>(
     ending
 }
 
-/// Returns the order for one file of a batch, which has the settings of `order`.
+/// Returns the order for one file of a batch, with the settings of `order`.
 fn order_at<'e>(order: ExpandOrder<'_>, batch_file: &'e BatchFile<'_>) -> ExpandOrder<'e>
     ensures { order_value result ≡ batch_file_order (order_value order.entry) batch_file.now }
 {
@@ -226,8 +227,8 @@ fn order_at<'e>(order: ExpandOrder<'_>, batch_file: &'e BatchFile<'_>) -> Expand
     }
 }
 
-/// Returns the ending of two files: the higher exit status, and whether the messages of both were
-/// written.
+/// Combines two endings. The result has the higher exit status, and its `is_written` is `true` if
+/// the messages of both endings were written.
 fn joined(one: Ending, other: Ending) -> Ending
     ensures status { (result.status ≡ one.status) ⊎ (result.status ≡ other.status) }
     ensures highest { (one.status ≤ result.status) × (other.status ≤ result.status) }

@@ -1,5 +1,5 @@
-//! Describes the difference between a file and the result with which it is compared. Used by
-//! `program` for `--check`.
+//! Describes the difference between a file and the requested result. Called by `program` for
+//! `--check`.
 
 ghost use Rattle.std.specs.Prelude.{⊤};
 ghost use Rattle.logos_cli.specs.Views.{FailsBy, IsRefusedFor};
@@ -28,15 +28,15 @@ pub(crate) struct StaleFile<'t> {
     pub(crate) path: &'t str,
     /// The shape of the result.
     pub(crate) shape: Shape,
-    /// The result of comparing the file with `made`, which is not `Same`.
+    /// The result of comparing the file with `made`. It is never `Same`.
     pub(crate) occurrence: Occurrence,
     /// The bytes of the requested result.
     pub(crate) made: &'t [u8],
 }
 
 /// Returns the refusal of a file that is missing or differs from the result. The refusal shows the
-/// first lines that differ, and the shape that the file's first line names, if that is another one.
-/// Returns `Memory` if memory runs out.
+/// first lines that differ, and the shape in the file's first line if this shape differs from the
+/// shape of the result. Returns `Memory` if memory runs out.
 pub(crate) fn difference<'w, F: ComparableFiles>(
     alloc: Global,
     stale: &StaleFile<'_>,
@@ -51,7 +51,8 @@ pub(crate) fn difference<'w, F: ComparableFiles>(
     refused(alloc, stale, &found)
 }
 
-/// Returns the refusal of a stale file with the bytes `found`, or `Memory` if memory runs out.
+/// Returns the refusal of a stale file that contains the bytes `found`, or `Memory` if memory runs
+/// out.
 fn refused<'w>(alloc: Global, stale: &StaleFile<'_>, found: &[u8]) -> Failure<'w>
     ensures { FailsBy (IsRefusedFor (λ shown. ⊤)) result }
 {
@@ -61,8 +62,8 @@ fn refused<'w>(alloc: Global, stale: &StaleFile<'_>, found: &[u8]) -> Failure<'w
     }
 }
 
-/// Returns the lines that describe how the bytes `found` of a stale file differ. Only the first of
-/// them is returned if a text is not UTF-8.
+/// Returns the lines that describe how the bytes `found` of a stale file differ from the result.
+/// Returns only the first of these lines if `found` or the result is not UTF-8.
 fn difference_text(
     alloc: Global,
     stale: &StaleFile<'_>,
@@ -77,7 +78,7 @@ fn difference_text(
     page.finish()
 }
 
-/// Appends the line which states that a file is missing or differs from the result.
+/// Appends the line that states that a file is missing or differs from the result.
 fn push_what(page: &mut Page, stale: &StaleFile<'_>) {
     page.push("error: ");
     page.push_shown(stale.path);
@@ -91,8 +92,8 @@ fn push_what(page: &mut Page, stale: &StaleFile<'_>) {
     }
 }
 
-/// Appends the first lines of a file and of the result from the first difference on, or nothing if
-/// the file is empty.
+/// Appends the first lines of a file and of the result, from the first difference on. Appends
+/// nothing if the file is empty.
 fn push_lines(page: &mut Page, found: &str, made: &str) {
     if found.is_empty() {
         return;
@@ -109,8 +110,8 @@ fn push_lines(page: &mut Page, found: &str, made: &str) {
     push_both(page, number, rests.0, rests.1);
 }
 
-/// Returns both texts without their first lines if these are equal, otherwise `None`. A line
-/// without a line end equals none.
+/// Returns both texts without their first lines if the first lines are equal, and `None` otherwise.
+/// A line without a line end does not equal any line.
 fn after_same<'t>(found: &'t str, made: &'t str) -> Option<(&'t str, &'t str)> {
     let (one, found) = found.split_once('\n')?;
     let (other, made) = made.split_once('\n')?;
@@ -121,15 +122,15 @@ fn after_same<'t>(found: &'t str, made: &'t str) -> Option<(&'t str, &'t str)> {
     }
 }
 
-/// Appends the first lines of `found` and of `made`. `number` is the number of the first line of
-/// each.
+/// Appends the first lines of `found` and of `made`. `number` is the line number at which both
+/// texts begin.
 fn push_both(page: &mut Page, number: usize, found: &str, made: &str) {
     push_side(page, " - ", number, found);
     push_side(page, " + ", number, made);
 }
 
-/// Appends the first lines of `text`, each after its number and `sign`. `number` is the number of
-/// the first line.
+/// Appends the first lines of `text`, each preceded by its line number and `sign`. `number` is the
+/// line number at which `text` begins.
 fn push_side(page: &mut Page, sign: &str, number: usize, text: &str) {
     let mut rest = text;
     for line in 0..SHOWN_LINES {
@@ -143,8 +144,8 @@ fn push_side(page: &mut Page, sign: &str, number: usize, text: &str) {
     }
 }
 
-/// Returns the first line of a text without its line end, and the rest after that, or `None` if the
-/// text is empty.
+/// Returns the first line of a text without its line end, and the text after the line end. Returns
+/// `None` if the text is empty.
 fn first_line(text: &str) -> Option<(&str, &str)> {
     if text.is_empty() {
         return None;
@@ -155,7 +156,8 @@ fn first_line(text: &str) -> Option<(&str, &str)> {
     }
 }
 
-/// Appends a line of at most `SHOWN_BYTES` bytes, or its prefix and `..`, and a line end.
+/// Appends `line` and a line end. If the line has more than `SHOWN_BYTES` bytes, appends a prefix
+/// of the line and `..` instead of the line.
 fn push_cut(page: &mut Page, line: &str) {
     if let Some((front, rest)) = line.split_at_checked(line.floor_char_boundary(SHOWN_BYTES)) {
         page.push_shown(front);
@@ -166,8 +168,8 @@ fn push_cut(page: &mut Page, line: &str) {
     page.push("\n");
 }
 
-/// Appends the help about the shape that the first line of a file names, if that is not the one of
-/// the result.
+/// Appends the help about the shape in the first line of a file if this shape differs from the
+/// shape of the result.
 fn push_shape(page: &mut Page, found: &str, stale: &StaleFile<'_>) {
     let wanted = shape_name(stale.shape);
     match named_shape(found) {
@@ -184,7 +186,7 @@ fn push_shape(page: &mut Page, found: &str, stale: &StaleFile<'_>) {
     }
 }
 
-/// Returns the name of the shape that the first line of `found` names, or `None` if it names no
+/// Returns the name of the shape in the first line of `found`, or `None` if the line contains no
 /// known shape.
 fn named_shape(found: &str) -> Option<&'static str> {
     let (line, _) = found.split_once('\n')?;

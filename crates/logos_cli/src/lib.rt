@@ -1,4 +1,4 @@
-//! The program `logos_cli`: it expands the derive of the lexers in a Rust file.
+//! The program `logos_cli`, which expands the derive of each lexer in a Rust file.
 
 #![tactic(auto)]
 
@@ -14,8 +14,8 @@ use logos_host::{Failure, SourceDisk};
 use logos_screen::ColorOutput;
 use program::run_with;
 
-/// Runs `logos_cli` with `arguments`, which are those of the process or the failure to read these.
-/// Returns the exit status.
+/// Runs `logos_cli`, and returns its exit status. `arguments` contains the arguments of the
+/// process, or the failure to read them.
 pub fn run_logos_cli(rt: &HostRuntime, arguments: Result<Vec<String>, Failure<'static>>) -> u8
     requires { IfErr arguments (λ failure. (status_of failure ≡ 2) ⊎ (status_of failure ≡ 3)) }
     ensures usage { IfOk arguments.entry (λ passed.

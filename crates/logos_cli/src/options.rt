@@ -1,4 +1,4 @@
-//! Reads the request of `logos_cli` from its arguments. Used by `batch` and `program`.
+//! Reads the request of `logos_cli` from its arguments. Called by `program`.
 
 ghost use Rattle.std.specs.Prelude.{◌≡◌, IfErr, IfOk, None, Some, is_some, map, option_map, string_bytes};
 ghost use Rattle.logos_cli.specs.Views.{arguments_value, requested, file_given, is_folder, named_shape, order_given, order_value, placed, request_given, request_value, shape_named, status_of};
@@ -16,7 +16,7 @@ pub(crate) enum Request<'w> {
     Help,
     Version,
     Expand(ExpandOrder<'w>),
-    /// The order to expand files into a folder.
+    /// The order to expand several files into a folder.
     ExpandEach(Batch<'w>),
 }
 
@@ -44,7 +44,8 @@ pub(crate) struct ExpandOrder<'w> {
 pub(crate) struct Batch<'w> {
     /// The arguments of the command line, which contain the paths of the files.
     pub(crate) arguments: &'w [String],
-    /// The order for the first file, which the orders for the others repeat with other paths.
+    /// The order for the first file. The orders for the other files differ from it only in their
+    /// paths.
     pub(crate) order: ExpandOrder<'w>,
     /// The path of the folder, which ends in `/`.
     pub(crate) folder: &'w str,
@@ -55,7 +56,7 @@ pub(crate) struct Batch<'w> {
 /// # Errors
 ///
 /// Returns `UnknownOption` if an argument is an unknown option, and `Misuse` if the arguments are
-/// invalid otherwise.
+/// invalid for another reason.
 pub(crate) fn request_of(arguments: &[String]) -> Result<Request<'_>, Failure<'_>>
     ensures requested { IfOk result (λ request.
         requested (map string_bytes arguments.now) ≡ Some (request_value request)) }
@@ -87,7 +88,8 @@ fn request_given<'w>(
     }
 }
 
-/// Returns the request to expand files that the parsed arguments make. They must name a file.
+/// Returns the request to expand files that the parsed arguments make. The arguments must name a
+/// file.
 fn order_given<'w>(
     arguments: &'w [String],
     parsed: Arguments<'w>,
@@ -109,8 +111,8 @@ fn order_given<'w>(
     file_given(arguments, parsed, input, style)
 }
 
-/// Returns the request to expand `input`, and other files if the arguments name some, with messages
-/// in the style `style`.
+/// Returns the request to expand `input` and any further files that the arguments name. Messages
+/// have the style `style`.
 fn file_given<'w>(
     arguments: &'w [String],
     parsed: Arguments<'w>,
@@ -144,8 +146,9 @@ fn file_given<'w>(
     placed(arguments, order, parsed.second)
 }
 
-/// Returns the request to expand several files into a folder if `order` names one as the output,
-/// otherwise the request to expand one file. Refuses a second path without a folder.
+/// Returns the request to expand several files into a folder if the output of `order` is a folder,
+/// and the request to expand one file otherwise. Refuses a second path if the output is not a
+/// folder.
 fn placed<'w>(
     arguments: &'w [String],
     order: ExpandOrder<'w>,
@@ -169,7 +172,7 @@ fn placed<'w>(
     }
 }
 
-/// Returns whether `path` ends in `/`, and thus is the path of a folder.
+/// Returns whether `path` ends in `/` and thus is the path of a folder.
 fn is_folder(path: &str) -> bool
     ensures { result ≡ is_folder path.now }
 {
@@ -186,7 +189,8 @@ fn is_given(path: Option<&str>) -> bool
     }
 }
 
-/// Returns the shape with the name `name`, or `Tables` for `None`. Refuses an unknown name.
+/// Returns the shape with the name `name`, or `Tables` if `name` is `None`. Refuses an unknown
+/// name.
 fn shape_given<'w>(name: Option<&'w str>) -> Result<Shape, Failure<'w>>
     ensures shape { IfOk result (λ shape.
         named_shape (option_map (λ name. name.now) name.entry) ≡ Some shape) }
@@ -206,7 +210,7 @@ fn shape_given<'w>(name: Option<&'w str>) -> Result<Shape, Failure<'w>>
     }
 }
 
-/// Returns the shape with the name `name`, or `None` if there is none.
+/// Returns the shape with the name `name`, or `None` if the name is unknown.
 fn shape_by_name(name: &str) -> Option<Shape>
     ensures { result ≡ shape_named name.now }
 {

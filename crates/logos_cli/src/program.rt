@@ -1,4 +1,4 @@
-//! Runs the program, from its arguments to its exit status. Used by `run_logos_cli`, `batch` and
+//! Runs the program, from its arguments to its exit status. Called by `run_logos_cli`, `batch` and
 //! build scripts.
 
 ghost use Rattle.std.specs.Prelude.{◌≡◌, ◌≢◌, ◌≤◌, ◌++◌, ◌⊎◌, None, Some, MatchOption, false, true, IfErr, IfOk, IfSome, OnOk, ℕ, List, IsTrue, map, string_bytes};
@@ -41,17 +41,17 @@ options:
 
 const VERSION: &str = "logos_cli 0.1.0 (for logos 0.16)\n";
 
-/// The way in which the program ended.
+/// The result of a run of the program.
 #[derive(Clone, Copy)]
 pub(crate) struct Ending {
     /// The exit status.
     pub(crate) status: u8,
-    /// Whether standard error took all messages.
+    /// Whether all messages were written to standard error.
     pub(crate) is_written: bool,
 }
 
 /// Runs the program with its arguments, and returns the exit status of `run`. If the arguments
-/// cannot be read, writes a message and returns the exit status of the failure.
+/// cannot be read, writes a message and returns the exit status of this failure.
 pub(crate) fn run_with<F: ComparableFiles, O: Write, E: Write + IsTerminal>(
     alloc: Global,
     arguments: Result<Vec<String>, Failure<'static>>,
@@ -90,9 +90,10 @@ pub(crate) fn run_with<F: ComparableFiles, O: Write, E: Write + IsTerminal>(
     }
 }
 
-/// Runs the program. The exit status is 0 if the request is fulfilled, 1 if it is refused, 2 if the
-/// arguments are invalid or name the input as the output, and 3 if a file or memory fails. Messages
-/// are written to standard error.
+/// Runs the program. The exit status is 0 if the request is fulfilled, and 1 if it is refused. It
+/// is 2 if the arguments are invalid, or if a result would overwrite an input or another result. It
+/// is 3 if a file cannot be read or written, or if memory runs out. Messages are written to
+/// standard error.
 pub(crate) fn run<F: ComparableFiles, O: Write, E: Write + IsTerminal>(
     alloc: Global,
     arguments: &[String],
@@ -135,7 +136,8 @@ pub(crate) fn run<F: ComparableFiles, O: Write, E: Write + IsTerminal>(
     }
 }
 
-/// Returns the ending of a request without warnings. Writes the message of a failure.
+/// Returns the ending of a request that has no warnings. If the request failed, writes the message
+/// of the failure.
 fn ended<E: Write>(done: Result<(), Failure<'_>>, err: &mut E) -> Ending
     requires { IfErr done (λ failure. status_of failure ≡ 3) }
     ensures { (result.status ≡ 3) ⊎ (result.status ≡ 0) }
@@ -162,7 +164,7 @@ pub(crate) fn failed<E: Write>(failure: &Failure<'_>, err: &mut E) -> Ending
 }
 
 /// Expands the file of an order and delivers the result. If the output is the input, reads and
-/// writes no file, and ends with exit status 2.
+/// writes no file, and returns the exit status 2.
 fn run_order<F: ComparableFiles, O: Write, E: Write + IsTerminal>(
     alloc: Global,
     order: ExpandOrder<'_>,
@@ -222,7 +224,7 @@ pub(crate) fn carry_out<F: ComparableFiles, O: Write, E: Write + IsTerminal>(
     }
 }
 
-/// Returns the path of the file for the result if it leads to the input, otherwise `None`.
+/// Returns the path of the output file if it leads to the input, and `None` otherwise.
 fn own_output<'w, F: ComparableFiles>(order: ExpandOrder<'w>, files: &F) -> Option<&'w str>
     ensures { MatchOption result
         (IfSome (order_value order.entry).output
@@ -236,8 +238,8 @@ fn own_output<'w, F: ComparableFiles>(order: ExpandOrder<'w>, files: &F) -> Opti
     }
 }
 
-/// Reads the file of an order, and returns its expansion. `is_colored` is whether messages have
-/// colors.
+/// Reads the file of an order, and returns the expansion of the file. `is_colored` is `true` if
+/// messages have colors.
 fn expansion_of<'w, F: ComparableFiles>(
     alloc: Global,
     order: ExpandOrder<'w>,
@@ -270,7 +272,7 @@ fn expansion_of<'w, F: ComparableFiles>(
 }
 
 /// Writes the warnings of an expansion, delivers its result, and returns the ending of the program.
-/// Writes the message of a failure after the warnings.
+/// If the delivery fails, writes the message of the failure after the warnings.
 fn deliver_and_end<F: ComparableFiles, O: Write, E: Write>(
     alloc: Global,
     order: ExpandOrder<'_>,
@@ -303,7 +305,7 @@ fn deliver_and_end<F: ComparableFiles, O: Write, E: Write>(
 }
 
 /// Writes the message of a failure that followed warnings, and returns the ending of the program.
-/// `is_warned` is whether standard error took the warnings.
+/// `is_warned` is `true` if all warnings were written to standard error.
 fn failed_after<E: Write>(is_warned: bool, failure: &Failure<'_>, err: &mut E) -> Ending
     ensures status { result.status ≡ status_of failure.now }
     ensures written { IsTrue result.is_written → IsTrue is_warned × ((usage : List ℕ)
@@ -316,8 +318,8 @@ fn failed_after<E: Write>(is_warned: bool, failure: &Failure<'_>, err: &mut E) -
     }
 }
 
-/// Writes the text of the warnings of a file. Returns whether standard error took the text, or
-/// `true` if it is empty.
+/// Writes the text of the warnings of a file to standard error. Returns whether the whole text was
+/// written, or `true` if the text is empty.
 fn warn<E: Write>(warnings: &[u8], err: &mut E) -> bool
     ensures { IsTrue result → (text : List ℕ)
         × Appends (E.contents err.old) (E.contents err.new) text }
@@ -328,8 +330,8 @@ fn warn<E: Write>(warnings: &[u8], err: &mut E) -> bool
     write_through(warnings, err).is_ok()
 }
 
-/// Writes the result `bytes` to standard output, or to the output file if the order names one. With
-/// `--check`, only compares the file with the result.
+/// Writes the result `bytes` to the output file of an order, or to standard output if the order
+/// names no output file. With `--check`, only compares the file with the result.
 fn deliver<'w, F: ComparableFiles, O: Write>(
     alloc: Global,
     order: ExpandOrder<'w>,
@@ -353,8 +355,8 @@ fn deliver<'w, F: ComparableFiles, O: Write>(
     }
 }
 
-/// Writes `bytes` to the file at `path`, unless the file has them already. With `--check`, refuses
-/// a file that does not have them.
+/// Writes `bytes` to the file at `path`, unless the file already contains these bytes. With
+/// `--check`, refuses a file that does not contain them.
 fn settle<'w, F: ComparableFiles>(
     alloc: Global,
     order: ExpandOrder<'w>,

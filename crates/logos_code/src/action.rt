@@ -1,13 +1,14 @@
-//! The actions that callbacks return. Used by users' callbacks and by `logos_machine`, which acts
-//! on them.
+//! Defines the actions that callbacks return. Used by users' callbacks and by `logos_machine`,
+//! which performs the actions.
 
-/// The result of a callback: whether its match becomes a token, no item, or an error.
+/// The result of a callback, which determines whether the match becomes a token, no item, or an
+/// error.
 #[derive(Clone, Copy, Debug, PartialEq, Eq)]
 pub enum Action {
-    /// A token. For the leaf of a `skip`, `Emit` is equivalent to `Skip`.
+    /// The match becomes a token. For the leaf of a `skip`, `Emit` is equivalent to `Skip`.
     Emit,
-    /// No item: the match is skipped.
+    /// The match is skipped and becomes no item.
     Skip,
-    /// An error, with the leaf of the match.
+    /// The match becomes an error with the leaf of the match.
     Error,
 }

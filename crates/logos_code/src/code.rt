@@ -1,5 +1,5 @@
-//! Code values, which define the steps of a lexer in each state. Made by `logos_generator`, and
-//! read by `logos_machine` and the printers of generated code.
+//! Defines code values: the steps of a lexer in each state. `logos_generator` makes code values;
+//! `logos_machine` and the printers of generated code read them.
 
 ghost use Rattle.std.specs.Prelude.{◌≡◌, ◌*◌, ◌<◌, ◌/◌, length, option_map, option_copied, IfSome};
 ghost use Rattle.logos_code.specs.Views.{passes_test, IsSound, NamesTest, entry_of, state_at, calls_back_for, skips_over, code_of, IsValid, target, IsLastMark, IsMask, IsEntry, IsFirst, IsLastEntry, IsRowStart, shape_named, mark_by};
@@ -23,8 +23,8 @@ use signs::Sign;
 use std::marker::Model;
 use uses::LeafUse;
 
-/// The mark of a state: a match of `leaf` ends at the state, or one byte before it if `late` is
-/// `true`.
+/// The mark of a state. A match of `leaf` ends at the state, or one byte before the state if `late`
+/// is `true`.
 #[derive(Clone, Copy, Debug, PartialEq, Eq)]
 pub struct Mark {
     pub leaf: LeafId,
@@ -34,9 +34,9 @@ pub struct Mark {
 /// A condition on a byte.
 #[derive(Drop)]
 pub enum Condition {
-    /// Comparisons, at least one of which holds for the byte.
+    /// The byte passes at least one of these comparisons.
     Comparisons(Vec<Comparisons>),
-    /// The number of a test that the byte passes.
+    /// The byte passes the test with this number.
     Test(usize),
 }
 
@@ -44,42 +44,42 @@ pub enum Condition {
 #[derive(Drop)]
 pub enum Fork {
     /// Conditions with their targets. A byte leads to the target of the first condition that holds
-    /// for it, or nowhere if none holds.
+    /// for the byte, or nowhere if no condition holds.
     Conditions(Vec<(Condition, usize)>),
-    /// The number of a jump table. A byte leads to the state in its entry of the table, or nowhere
-    /// if the entry is `NOWHERE`.
+    /// The number of a jump table. A byte leads to the state in the table's entry for the byte, or
+    /// nowhere if the entry is `NOWHERE`.
     Table(usize),
 }
 
 /// The entry of a jump table for a byte that leads nowhere.
 pub const NOWHERE: u32 = u32::MAX;
 
-/// The steps of a state: first its fast loop, then its mark, then its fork or, at the end of the
-/// input, the step to `at_end`. States are identified by their numbers.
+/// The steps of a state: first the fast loop, then the mark, and then the fork. At the end of the
+/// input, the step to `at_end` replaces the fork. States are identified by their numbers.
 #[derive(Drop)]
 pub struct CodeState {
-    /// The number of the test of the bytes on which the state does not change, or `None` if the
-    /// state has no fast loop.
+    /// The number of the test of the fast loop, or `None` if the state has no fast loop. A byte
+    /// that passes the test does not change the state.
     pub fast_loop: Option<usize>,
     pub mark: Option<Mark>,
     pub fork: Fork,
-    /// The target of the end of the input, or `None` if the end leads nowhere.
+    /// The state to which the end of the input leads, or `None` if the end leads nowhere.
     pub at_end: Option<usize>,
 }
 
-/// The use of the matches of a leaf: the kind of their results, and their callback.
+/// The use of a leaf's matches: their kind and their callback.
 #[derive(Drop)]
 pub struct CodeLeaf<'s> {
     pub kind: VariantKind<'s>,
-    /// The callback for matches, or `None` if the leaf has none.
+    /// The callback for matches, or `None` if the leaf has no callback.
     pub callback: Option<Callback<'s>>,
 }
 
-/// The shape of generated code, an option of a generator.
+/// The shape of generated code, as an option of a generator.
 #[derive(Clone, Copy, Debug, PartialEq, Eq)]
 pub struct Config {
     /// Whether the generated code is one loop over a state variable, instead of a function for each
-    /// state. Both shapes yield the same items.
+    /// state. Both shapes return the same items.
     pub use_state_machine_codegen: bool,
 }
 
@@ -94,8 +94,8 @@ impl Config {
         use_state_machine_codegen: false,
     };
 
-    /// Returns the shape with this name, `state_machine` or `tailcall`, or `None` for any other
-    /// name.
+    /// Returns the shape that is called `name`. Returns `None` if `name` is neither `state_machine`
+    /// nor `tailcall`.
     pub fn by_name(name: &str) -> Option<Config>
         ensures { result ≡ shape_named name.now }
     {
@@ -109,17 +109,16 @@ impl Config {
     }
 }
 
-/// The header of a code: the arguments of its generator besides the graph, which the generator
-/// copies.
+/// The header of a code: copies of the arguments of the generator other than the graph.
 #[derive(Drop)]
 pub struct Header<'s> {
     /// The shape of the generated code.
     pub shape: Config,
     /// The name of the enum.
     pub name: Ident<'s>,
-    /// The type of the enum: its name with its generic arguments.
+    /// The type of the enum: the enum's name with its generic arguments.
     pub this: TypeExpr<'s>,
-    /// The callback for errors, or `None` if there is none.
+    /// The callback for errors, if there is one.
     pub error_callback: Option<Callback<'s>>,
 }
 
@@ -129,37 +128,39 @@ pub struct Header<'s> {
 pub struct CodeParts<'s> {
     pub header: Header<'s>,
     pub states: Vec<CodeState>,
-    /// The bit tables: test `k` is bit `k % 8` of the entries of table `k / 8`.
+    /// The bit tables. Test `k` is bit `k % 8` of each entry of table `k / 8`.
     pub bit_tables: Vec<[u8; 256]>,
-    /// The jump tables. A table has an entry for each byte: the number of the state to which the
-    /// byte leads, or `NOWHERE`.
+    /// The jump tables. The entry for a byte is the number of the state to which the byte leads, or
+    /// `NOWHERE`.
     pub jump_tables: Vec<[u32; 256]>,
-    /// The use of the matches of each leaf, in the order of the numbers of the leaves.
+    /// The use of each leaf's matches, in the order of the numbers of the leaves.
     pub leaves: Vec<CodeLeaf<'s>>,
     /// The number of the state in which each match attempt begins.
     pub root: usize,
-    /// Whether errors end between characters and the input has to be UTF-8.
+    /// Whether errors end between characters and the input must be UTF-8.
     pub utf8: bool,
 }
 
-/// The code of a lexer. Each state, table, test and leaf to which it refers exists, and no two of
-/// its jump tables are equal. `Generator::generate` makes it.
+/// The code of a lexer. `Generator::generate` makes codes.
+///
+/// All states, tables, tests and leaves to which a code refers exist, and no two of its jump tables
+/// are equal.
 #[derive(Drop)]
 pub struct Code<'s> {
     parts: CodeParts<'s>,
-    /// The entry of each byte at the start of a match attempt.
+    /// The entry of each byte as the first byte of a match attempt.
     first: [u32; 256],
-    /// The entries of all bytes in all states, so that a lexer needs one load for each byte. The
+    /// The entries of all bytes in all states. They let a lexer process a byte with one load. The
     /// module `rows` describes the layout.
     rows: Vec<u32>,
-    /// The mask of each test, with which a lexer tests sixteen bytes at once.
+    /// The mask of each test. With a mask, a lexer tests sixteen bytes at once.
     masks: Vec<[u8; 32]>,
-    /// The accept sign of each state, which is its mark.
+    /// The mark of each state, as a sign.
     signs: Vec<Sign>,
-    /// The last mark that an attempt has passed if it ends in a state, for each state, or an empty
-    /// list if this is not known.
+    /// For each state, the last mark that an attempt has passed if it ends in the state. The list
+    /// is empty if the last marks are unknown.
     last_marks: Vec<LastMark>,
-    /// The use of the matches of each leaf.
+    /// The use of each leaf's matches, in the order of the numbers of the leaves.
     uses: Vec<LeafUse>,
 }
 
@@ -195,15 +196,15 @@ impl<'s> Code<'s> {
         self.parts.header.name
     }
 
-    /// Returns the type of the enum: its name with its generic arguments.
+    /// Returns the type of the enum: the enum's name with its generic arguments.
     pub fn this(&self) -> &TypeExpr<'s>
         ensures { result.now ≡ self.now.header.this }
     {
         &self.parts.header.this
     }
 
-    /// Returns the parts of the code. Each state, table, test and leaf to which they refer exists,
-    /// and no two jump tables are equal.
+    /// Returns the parts of the code. All states, tables, tests and leaves to which the parts refer
+    /// exist, and no two jump tables are equal.
     pub fn parts(&self) -> &CodeParts<'s>
         ensures is { code_of result.now ≡ self.now }
         ensures valid { IsValid result.now }
@@ -211,14 +212,14 @@ impl<'s> Code<'s> {
         &self.parts
     }
 
-    /// Returns the callback for errors, or `None` if there is none.
+    /// Returns the callback for errors, if there is one.
     pub fn error_callback(&self) -> Option<&Callback<'s>>
         ensures { option_copied result ≡ self.now.header.error_callback }
     {
         self.parts.header.error_callback.as_ref()
     }
 
-    /// Returns the use of the matches of each leaf, in the order of the numbers of the leaves.
+    /// Returns the use of each leaf's matches, in the order of the numbers of the leaves.
     pub fn leaves(&self) -> &[CodeLeaf<'s>]
         ensures { result.now ≡ self.now.code_leaves }
     {
@@ -235,15 +236,15 @@ impl Code<'_> {
         self.parts.root
     }
 
-    /// Returns whether errors end between characters and the input has to be UTF-8.
+    /// Returns whether errors end between characters and the input must be UTF-8.
     pub fn is_utf8(&self) -> bool
         ensures { result ≡ self.now.utf8 }
     {
         self.parts.utf8
     }
 
-    /// Returns the entry of `byte` as the first byte of an attempt: that of the root's row, or
-    /// `UNDESCRIBED` if that one is of the kind `STAYS`, `LEAVES` or `HALTS`.
+    /// Returns the entry of `byte` as the first byte of an attempt. This is the entry in the row of
+    /// the root, or `UNDESCRIBED` if that entry is of the kind `STAYS`, `LEAVES` or `HALTS`.
     #[inline(always)]
     pub fn first_entry(&self, byte: u8) -> u32
         ensures first { IsFirst self.now byte result }
@@ -254,8 +255,8 @@ impl Code<'_> {
         self.first[byte as usize]
     }
 
-    /// Returns the entry of `byte` in the state with this row offset, which is `WIDTH` times the
-    /// number of the state.
+    /// Returns the entry of `byte` in the state with the row offset `row_start`. The row offset is
+    /// `WIDTH` times the number of the state.
     #[inline(always)]
     pub fn entry(&self, row_start: usize, byte: u8) -> u32
         requires { IsRowStart self.now row_start }
@@ -267,7 +268,7 @@ impl Code<'_> {
         column[row_start]
     }
 
-    /// Returns whether the byte passes the test with the number `test`.
+    /// Returns whether `byte` passes the test with the number `test`.
     pub fn passes_test(&self, test: usize, byte: u8) -> bool
         requires { NamesTest self.now test }
         ensures { result ≡ passes_test self.now.bit_tables test byte }
@@ -275,8 +276,8 @@ impl Code<'_> {
         self.parts.passes_test(test, byte)
     }
 
-    /// Returns the mask of the test with the number `test`. Bit `b / 16 % 8` of entry
-    /// `16 * (b / 128) + b % 16` is set if byte `b` passes the test.
+    /// Returns the mask of the test with the number `test`. For each byte `b`, bit `b / 16 % 8` of
+    /// entry `16 * (b / 128) + b % 16` is set if `b` passes the test.
     #[inline(always)]
     pub fn mask(&self, test: usize) -> &[u8; 32]
         requires { NamesTest self.now test }
@@ -285,8 +286,8 @@ impl Code<'_> {
         &self.masks[test]
     }
 
-    /// Returns the state to which `byte` leads from `state` by its fork, or `None` if the byte
-    /// leads nowhere.
+    /// Returns the state to which the fork of `state` leads on `byte`, or `None` if the byte leads
+    /// nowhere.
     pub fn target(&self, state: usize, byte: u8) -> Option<usize>
         requires { state < length self.now.states }
         ensures { result ≡ target self.now (state_at self.now state).fork byte }
@@ -301,7 +302,7 @@ impl Code<'_> {
         self.parts.target(&self.parts.states[state].fork, byte)
     }
 
-    /// Returns the entry of the end of the input in the state with this row offset.
+    /// Returns the entry of the end of the input in the state with the row offset `row_start`.
     #[cold]
     #[inline(never)]
     pub fn last_entry(&self, row_start: usize) -> u32
@@ -315,8 +316,8 @@ impl Code<'_> {
         entry_of_step(self.parts.halting_step(state.mark))
     }
 
-    /// Returns the number of the test of the state's fast loop, or `None` if the state has no fast
-    /// loop.
+    /// Returns the number of the test of the fast loop of `state`, or `None` if the state has no
+    /// fast loop.
     pub fn fast_loop(&self, state: usize) -> Option<usize>
         requires { state < length self.now.states }
         ensures is { result ≡ (state_at self.now state).fast_loop }
@@ -325,7 +326,7 @@ impl Code<'_> {
         self.parts.states[state].fast_loop
     }
 
-    /// Returns the accept sign of the state, which is its mark.
+    /// Returns the mark of `state`, as a sign.
     #[inline(always)]
     pub fn sign(&self, state: usize) -> Sign
         requires { state < length self.now.states }
@@ -334,9 +335,9 @@ impl Code<'_> {
         self.signs[state]
     }
 
-    /// Returns the last mark that an attempt has passed if it ends in the state with this row
-    /// offset. The result saves a lexer a second pass, and may be `Unseen` or `Varies` for any
-    /// state.
+    /// Returns the last mark that an attempt has passed if it ends in the state with the row offset
+    /// `row_start`. With the result, a lexer need not make a second pass over the attempt. The
+    /// result may be `Unseen` or `Varies` for any state.
     #[cold]
     #[inline(never)]
     pub fn last_mark(&self, row_start: usize) -> LastMark
@@ -373,7 +374,7 @@ impl Code<'_> {
         self.uses[leaf.0].calls_back
     }
 
-    /// Returns whether the leaf is a skip, whose matches are no tokens.
+    /// Returns whether the leaf is a skip, that is, whether its matches are not tokens.
     #[inline(always)]
     pub fn skips(&self, leaf: LeafId) -> bool
         requires { leaf.0 < length self.now.leaves }
@@ -383,7 +384,7 @@ impl Code<'_> {
     }
 }
 
-/// Returns the state that an entry of a jump table represents, or `None` for `NOWHERE`.
+/// Returns the state in an entry of a jump table, or `None` if the entry is `NOWHERE`.
 fn target_of(entry: u32) -> Option<usize>
     ensures { result ≡ entry_of entry }
 {

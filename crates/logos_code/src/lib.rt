@@ -1,5 +1,5 @@
-//! Code values, which define the steps of a lexer in each state. Made by `logos_generator`, and run
-//! by `logos_machine`.
+//! Defines code values: the steps of a lexer in each state. `logos_generator` makes code values,
+//! and `logos_machine` runs them.
 
 #![tactic(auto)]
 

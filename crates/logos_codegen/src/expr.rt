@@ -16,8 +16,8 @@ use logos_token::token::Span;
 use std::alloc::{AllocError, AllocFailed, Global};
 use std::marker::Model;
 
-/// The source of the tokenizer: an enum with a skip for blanks, and with a variant for each variant
-/// of `ExprKind`, of equal name.
+/// The source of the tokenizer: an enum that skips blanks, and that has a variant of equal name for
+/// each variant of `ExprKind`.
 pub const SOURCE: &str = r#"#[logos(skip r"[ \t\n]+")]
 enum Expr {
     #[regex("[0-9]+")]
@@ -45,7 +45,7 @@ enum Expr {
 }
 "#;
 
-/// The kind of a token: the variant of equal name in the enum of `SOURCE`.
+/// The kind of a token. Each kind has the name of a variant of the enum in `SOURCE`.
 #[derive(Clone, Copy, Debug, PartialEq, Eq)]
 pub enum ExprKind {
     Number,
@@ -61,8 +61,8 @@ pub enum ExprKind {
     Close,
 }
 
-/// A token of an expression: its kind, its span in the input, in bytes, and the input's bytes at
-/// the span.
+/// A token of an expression: its kind, its span in bytes of the input, and the bytes of the input
+/// at this span.
 #[derive(Clone, Copy, Debug)]
 pub struct ExprToken<'i> {
     pub kind: ExprKind,
@@ -70,10 +70,10 @@ pub struct ExprToken<'i> {
     pub slice: &'i [u8],
 }
 
-/// The reason that there is no tokenizer, or that an input has no tokens.
+/// The reason why no tokenizer or no tokens are returned.
 #[derive(Clone, Copy, Debug, PartialEq, Eq)]
 pub enum ExprError {
-    /// Faults of the tokenizer's source. They do not occur, as a test shows.
+    /// Faults of the tokenizer's source. A test shows that the source has none.
     Refused,
     /// An error in the input. `span` is the span of the first error in the input, in bytes.
     Bad { span: Span },
@@ -108,12 +108,12 @@ impl From<Refusal> for ExprError {
     }
 }
 
-/// The tokenizer: the code of the enum, made once and used for any number of inputs.
+/// The tokenizer: the code of the enum, generated once and used for any number of inputs.
 #[derive(Drop)]
 pub struct Language {
     code: Code<'static>,
-    /// The kind of the tokens of each leaf, in the order of the numbers of the leaves. The entry of
-    /// a skip is not used.
+    /// The kinds of the tokens of all leaves, in the order of the leaves' numbers. The entry of a
+    /// skip is not used.
     kinds: Vec<ExprKind>,
 }
 
@@ -136,8 +136,8 @@ impl Language {
     ///
     /// # Errors
     ///
-    /// Returns `Refused` if the source has faults, which a test excludes, and `Memory` if memory
-    /// runs out.
+    /// Returns `Refused` if the source has faults; a test shows that it has none. Returns `Memory`
+    /// if memory runs out.
     pub fn new(alloc: Global) -> Result<Language, ExprError>
         ensures ok { IfOk result IsLanguage }
         // An error means that the enum is refused or that memory ran out; it never depends on an
@@ -160,9 +160,9 @@ impl Language {
     ///
     /// # Errors
     ///
-    /// Returns `Bad` with the span of the first error, if the text has one: at its start begins
-    /// neither a token nor a blank, and it spans the longest prefix that could still have become a
-    /// token, or one character. Returns `Memory` if memory runs out.
+    /// Returns `Bad` with the span of the first error if the text has an error. Neither a token nor
+    /// a blank begins at the start of an error. The error spans the longest prefix that could still
+    /// have become a token, or one character. Returns `Memory` if memory runs out.
     pub fn tokens<'i>(&self, alloc: Global, input: &'i str) -> Result<Vec<ExprToken<'i>>, ExprError>
         // The items of maximal munch from the start of the text determine the outcome.
         ensures reads { Answers (Tokenizes input.now) result }
@@ -182,7 +182,7 @@ impl Language {
 }
 
 impl Language {
-    /// Returns the token of an item, or the span of the item if it is an error.
+    /// Returns the token of an item, or the span of the item if the item is an error.
     fn token_from<'i>(&self, item: Item<'i>) -> Result<ExprToken<'i>, Span>
         ensures ok { IfOk result (IsToken self.now.kinds (item_of item.entry)) }
         ensures err { IfErr result (IsErrorAt (item_of item.entry)) }
@@ -217,7 +217,7 @@ fn code_in(made: Generated<'static>) -> Code<'static>
     code
 }
 
-/// Returns the kinds of the tokens of all leaves, in the order of their numbers.
+/// Returns the kinds of the tokens of all leaves, in the order of the leaves' numbers.
 fn kinds_of(alloc: Global, leaves: &[Leaf<'_>]) -> Result<Vec<ExprKind>, AllocError>
     ensures { IfOk result (λ kinds. kinds.items
         ≡ map (λ leaf. kind_given (kind_value leaf.kind)) leaves.now) }
@@ -229,8 +229,7 @@ fn kinds_of(alloc: Global, leaves: &[Leaf<'_>]) -> Result<Vec<ExprKind>, AllocEr
     Ok(kinds)
 }
 
-/// Returns the kind of the tokens of a leaf: that with the name of its variant, or `Close` for a
-/// skip.
+/// Returns the kind with the name of a leaf's variant, or `Close` for a skip.
 fn kind_given(kind: &VariantKind<'_>) -> ExprKind
     ensures { result ≡ kind_given (kind_value kind.now) }
 {
@@ -241,7 +240,7 @@ fn kind_given(kind: &VariantKind<'_>) -> ExprKind
     }
 }
 
-/// Returns the kind with this name, or `Close` if no other kind has it.
+/// Returns the kind with the name `name`, or `Close` if no other kind has this name.
 fn kind_named(name: &str) -> ExprKind
     ensures { result ≡ kind_named name.now }
 {

@@ -13,15 +13,15 @@ use logos_type::TypeExpr;
 /// The options of a source on which the text around the body of its lexer depends.
 #[derive(Drop)]
 pub(crate) struct AroundOptions<'s> {
-    /// The path of the crate `logos`, or `None` if the source has no option for it.
+    /// The path of the crate `logos`, or `None` if the source does not set the path.
     pub(crate) library: Option<TokenStream<'s>>,
     pub(crate) error_type: Option<ErrorType<'s>>,
     pub(crate) extras: MaybeVoid<'s>,
 }
 
 impl<'s> AroundOptions<'s> {
-    /// Returns the parts of the text around a body that these options determine. `utf8_mode` is
-    /// whether inputs are UTF-8.
+    /// Returns the parts of the text around a body that the options determine. `utf8_mode` is
+    /// `true` if inputs are UTF-8.
     pub(crate) fn around(&self, utf8_mode: bool) -> Around<'_, 's>
         ensures { around_value result ≡ around_options self.now utf8_mode }
     {
@@ -35,7 +35,7 @@ impl<'s> AroundOptions<'s> {
     }
 }
 
-/// Returns the text of the type of inputs, with the blank after it.
+/// Returns the text of the type of inputs, followed by a blank.
 fn input_text(utf8_mode: bool) -> &'static str
     ensures { result.now ≡ input_text utf8_mode }
 {

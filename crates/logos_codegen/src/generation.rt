@@ -1,5 +1,5 @@
-//! Generates the code of a lexer from its source: `generate`, and its result `Generated`. Called by
-//! `lex_source`, the programs and users' code.
+//! Generates the code of a lexer from its source. `generate` returns the result as a `Generated`.
+//! Called by `lex_source`, the programs and users' code.
 
 ghost use Rattle.std.specs.Prelude.{◌≡◌, ◌<◌, ◌↔◌, ◌∷◌, ◌++◌, Bool, List, [], length, map, flat_map, option_map, IfOk, IfErr, IsErrAnd, OnOk, IsTrue, string_bytes, option_copied};
 ghost use Rattle.logos_codegen.specs.Views.{Rule, fault_of, ident_slice, callback_view, parser_view, kind_value, utf8_mode, IsGraphOf, rules_of, KeepsGiven, IsLexer, HeadHasItsType, IsHeadOf, analysis_view, too_long, Refuses, IsMemory, OccurInOrder, texts_of, named_leaf, reported_as, IsGiven, KeepsEnum, error_callback, variant_at, RunsAreCut, IsAccepted, IsRefused, IsWithinSizes, IsWithinLimits, IsLimit, ReportsGraph, IsFaultless, AreGraphFaults, IsGraphMade, BeginsImplementation, IsFrontOf};
@@ -35,8 +35,8 @@ pub struct Generated<'s> {
     pub graph: Graph<'s>,
     /// The name of the enum.
     pub name: Ident<'s>,
-    /// The path of the option `export_dir`, to which a program writes the state diagram of the
-    /// graph, or `None` if the source does not have this option.
+    /// The path in the option `export_dir`, or `None` if the source does not have this option. A
+    /// program writes the state diagram of the graph to this path.
     pub export_path: Option<String>,
     /// The options of the source that determine the text around the body of its lexer.
     options: AroundOptions<'s>,
@@ -49,15 +49,16 @@ struct EnumHead<'s> {
     name: Ident<'s>,
     /// The type of the enum: its name, and the generic arguments that follow it.
     this: TypeExpr<'s>,
-    /// The options of the source, without the skips, which are leaves, and without the faults.
+    /// The options of the source, without the faults and without the skips. The skips are leaves.
     options: Parser<'s>,
 }
 
 impl Generated<'_> {
     /// Returns the generated code: the implementation of `Logos` for the enum, as printed tokens.
-    /// The code contains the texts of all bit tables, in the order of their numbers, and after them
-    /// the conditions of all forks, in the order of the states and of the conditions of a fork. No
-    /// two of these texts overlap.
+    ///
+    /// The generated code contains the texts of all bit tables, in the order of their numbers. The
+    /// conditions of all forks follow, in the order of the states, and for each fork in the order
+    /// of its conditions. No two of these texts overlap.
     ///
     /// # Errors
     ///
@@ -72,8 +73,7 @@ impl Generated<'_> {
         Ok(self.printed(alloc)?.text)
     }
 
-    /// Returns the generated code, which is the text that `text` returns, and the pieces of the
-    /// source in this text.
+    /// Returns the generated code that `text` returns, with the pieces of the source in this text.
     ///
     /// # Errors
     ///
@@ -93,10 +93,12 @@ impl Generated<'_> {
         )
     }
 
-    /// Returns the front of the generated code in the shape `tables`, and the pieces of the source
-    /// in this text: the beginning of the implementation of `Logos` for the enum, as printed
-    /// tokens. The front ends with the functions for errors, matches and tokens in the body of the
-    /// lexing function. In the generated code, the tables follow the front.
+    /// Returns the front of the generated code in the shape `tables`, with the pieces of the source
+    /// in this text.
+    ///
+    /// The front is the beginning of the implementation of `Logos` for the enum, as printed tokens.
+    /// It ends with the functions for errors, matches and tokens in the body of the lexing
+    /// function. In the generated code, the tables follow the front.
     ///
     /// # Errors
     ///
@@ -116,9 +118,10 @@ impl Generated<'_> {
 
 impl<'s> Generated<'s> {
     /// Returns the name of the variant for the matches of `leaf`, with the span of the name in the
-    /// source. Returns `None` for a skip, and if no leaf has this number.
+    /// source. Returns `None` if the leaf is a skip or if no leaf has this number.
     ///
-    /// An item of `Lexer` names its leaf by number, so `variant` leads from an item to the enum.
+    /// An item of `Lexer` contains the number of its leaf, so `variant` finds the variant of an
+    /// item.
     pub fn variant(&self, leaf: LeafId) -> Option<Ident<'s>>
         ensures { result ≡ variant_at self.now.graph.leaves leaf.0 }
     {
@@ -145,8 +148,8 @@ fn report_faults(
     Ok(())
 }
 
-/// Reports the limit that `error` names, at `item`, the span of the enum. Fails if `error` is
-/// `Memory`, or if memory runs out for the report.
+/// Reports the limit that `error` names. `item` is the span of the enum, at which the limit is
+/// reported. Returns `Memory` if `error` is `Memory`, or if memory runs out.
 fn report_limit(error: BuildError, item: Span, errors: &mut Errors) -> Result<(), Memory>
     ensures { OnOk result (IsLimit error item errors.old errors.new) }
 {
@@ -161,8 +164,8 @@ fn report_limit(error: BuildError, item: Span, errors: &mut Errors) -> Result<()
     }
 }
 
-/// Returns the graph of the leaves, or `None` if a limit is exceeded. Adds the faults of the graph,
-/// or the exceeded limit, to `errors`. `item` is the span of the enum.
+/// Returns the graph of the leaves, or `None` if a limit is exceeded. Adds the faults of the graph
+/// or the exceeded limit to `errors`. `item` is the span of the enum.
 fn graph_of<'s>(
     leaves: Vec<Leaf<'s>>,
     utf8_mode: bool,
@@ -197,8 +200,8 @@ fn is_faultless(errors: &Errors) -> bool
 ///
 /// # Errors
 ///
-/// Returns `Errors` with the faults of `errors` and those of the graph if there are any, where an
-/// exceeded limit is a fault, and `Memory` if memory runs out.
+/// Returns `Errors` with the faults of `errors` and the faults of the graph if there are any. An
+/// exceeded limit is a fault of the graph. Returns `Memory` if memory runs out.
 fn faultless_graph<'s>(
     leaves: Vec<Leaf<'s>>,
     utf8_mode: bool,
@@ -274,7 +277,8 @@ fn callback_in<'p, 's>(parser: &'p Parser<'s>) -> Option<&'p Callback<'s>>
     }
 }
 
-/// Returns the code of a graph for the enum with this head. The code finds the longest matches.
+/// Returns the code of a graph for the enum with the head `head`. The code finds the longest
+/// matches.
 fn code_of<'s>(
     alloc: Global,
     config: Config,
@@ -323,8 +327,7 @@ fn path_of(export: Option<ExportPath>) -> Option<String>
     }
 }
 
-/// Returns the result of `generate` that has this code and graph, and the name and options of
-/// `head`.
+/// Returns the result of `generate` with `code`, `graph`, and the name and the options in `head`.
 fn put_together<'s>(code: Code<'s>, graph: Graph<'s>, head: EnumHead<'s>) -> Generated<'s>
     ensures parts { (result.code ≡ code.entry) × (result.graph ≡ graph.entry)
         × (result.name ≡ head.entry.name) }
@@ -356,19 +359,20 @@ fn put_together<'s>(code: Code<'s>, graph: Graph<'s>, head: EnumHead<'s>) -> Gen
 
 /// Generates the code of a lexer from its source.
 ///
-/// The source is an enum with the attributes `token` and `regex` on its variants and `logos` in
-/// front of it. Leaves are numbered from 0, first the skips and then those of the variants, both in
-/// the order of the source. The code finds the same items in both shapes of `config`.
+/// The source is an enum with the attributes `token` and `regex` on its variants and with
+/// attributes `logos` of its own. Leaves are numbered from 0: first the skips and then the leaves
+/// of the variants, both in source order. The code finds the same items in both shapes of `config`.
 ///
 /// # Errors
 ///
-/// Returns `Errors` with all faults of the source, in order, or with the one fault at which the
-/// source is read no further: faults of the generic parameters, of the attributes of the enum, of
+/// Returns `Errors` with the one fault that ends the reading of the source, or with all faults of
+/// the source in this order: faults of the generic parameters, of the attributes of the enum, of
 /// parameters that contain themselves, of subpatterns, of skips, of variants in source order, of
 /// leaves that can match invalid UTF-8 when inputs are UTF-8, of parameters without a type, and of
-/// the graph. Limits are among them: on the source's bytes, on the nesting of its delimiters, types
-/// and patterns, on the size of all trees, and on the number of states. Returns `Memory` if memory
-/// runs out.
+/// the graph. Exceeded limits are also faults: limits on the length of the source, on the nesting
+/// of its delimiters, types and patterns, on the size of all trees, and on the number of states.
+///
+/// Returns `Memory` if memory runs out.
 pub fn generate<'s>(alloc: Global, src: &'s str, config: Config) -> Result<Generated<'s>, Refusal>
     // The source has no faults, and these are its rules and its mode.
     ensures accepted { IfOk result (λ made. IsAccepted src.now

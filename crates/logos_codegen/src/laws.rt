@@ -36,7 +36,7 @@ pub fn runs_start_and_end_between_characters<C: Fn(LeafId, &[u8]) -> Action>(cal
         All (IsCut bytes) items }
 {}
 
-/// Two codes of one source, such as those in both shapes, have the same runs.
+/// Two codes of one source, such as its codes in the two shapes, have the same runs.
 pub fn codes_of_a_source_agree<C: Fn(LeafId, &[u8]) -> Action>(callback: &C)
     ensures { (source : List ℕ) (rules others : List Rule) (utf8 other : Bool)
         (code next : CodeValue) (bytes : List ℕ) (items : List Item) →

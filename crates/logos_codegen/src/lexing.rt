@@ -13,10 +13,10 @@ use logos_scan::items::items;
 use logos_token::error::Errors;
 use std::alloc::{AllocError, AllocFailed, Global};
 
-/// The reason that `lex_source` returns no items.
+/// The reason why `lex_source` returns no items.
 #[derive(Debug, Drop)]
 pub enum LexSourceError {
-    /// The faults of the source, among them the limits that it exceeds.
+    /// The faults of the source, including exceeded limits.
     Refused(Errors),
     /// An input that is not UTF-8. `valid_up_to` is the length in bytes of its longest UTF-8
     /// prefix.
@@ -79,15 +79,17 @@ fn lex_input<'i, C: Fn(LeafId, &[u8]) -> Action + Drop>(
     Ok(items(alloc, lexer)?)
 }
 
-/// Returns the items of an input under the leaves of a source, in order.
+/// Returns the items that the leaves of a source determine in an input, in order.
 ///
-/// The source is read as `generate` reads it. From each point of the input the longest match is
-/// taken, and of several matches of that length the one whose leaf has the highest priority. Its
-/// item is a token of its leaf; matches of a `skip` have no item. If no leaf matches, the item is
-/// an error that spans the longest prefix that could still have become a match, at least one byte,
-/// and in UTF-8 mode whole characters. For each match of a leaf that has a callback, `callbacks`
-/// receives the leaf and the slice, and returns the action; `Emit` for a `skip` means `Skip`.
-/// `callbacks` is not called for other leaves. The items are the same in both shapes of `config`.
+/// The source is read as `generate` reads it. At each point of the input, the longest match is
+/// taken. Of several longest matches, the match of the leaf with the highest priority is taken. The
+/// match becomes a token of its leaf; a match of a `skip` becomes no item. If no leaf matches, the
+/// item is an error. An error spans the longest prefix that could still have become a match: at
+/// least one byte, and in UTF-8 mode whole characters.
+///
+/// For each match of a leaf that has a callback, `callbacks` receives the leaf and the slice, and
+/// returns the action; `Emit` for a `skip` means `Skip`. `callbacks` is not called for other
+/// leaves. The items are the same in both shapes of `config`.
 ///
 /// # Errors
 ///

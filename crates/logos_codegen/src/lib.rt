@@ -1,5 +1,5 @@
-//! Generates the code of a source, and lexes an input with it. Re-exports the public modules of the
-//! crates below. Called by the programs and by users' Rattle code.
+//! Generates the code of a source, and lexes an input with the code. Re-exports the public modules
+//! of the crates below. Called by the programs and by users' Rattle code.
 
 #![tactic(auto)]
 

@@ -10,7 +10,7 @@ use logos_token::error::{Detail, Errors, FaultCode, Memory};
 use logos_token::token::Span;
 use std::alloc::{AllocError, Global};
 
-/// Returns the leaf with this number, or `None` if no leaf has it.
+/// Returns the leaf with the number `number`, or `None` if no leaf has this number.
 fn leaf_at<'l, 's>(leaves: &'l [Leaf<'s>], number: LeafId) -> Option<&'l Leaf<'s>>
     ensures { option_map (λ leaf. named_leaf leaf.now) result
         ≡ slice_get (map named_leaf leaves.now) number.0 }
@@ -18,8 +18,8 @@ fn leaf_at<'l, 's>(leaves: &'l [Leaf<'s>], number: LeafId) -> Option<&'l Leaf<'s
     leaves.get(number.0)
 }
 
-/// Appends a line for the leaf `other` to the message of a fault, unless `other` is `leaf` or no
-/// leaf has its number.
+/// Appends a line for the leaf with the number `other` to the message of a fault. Appends nothing
+/// if `other` is `leaf` or if no leaf has this number.
 fn push_line(
     text: &mut String,
     leaves: &[Leaf<'_>],
@@ -39,8 +39,7 @@ fn push_line(
     }
 }
 
-/// Appends a line for each leaf of the ambiguous `set`, except for `leaf`, to the message of a
-/// fault.
+/// Appends a line for each leaf of the ambiguous `set` except `leaf` to the message of a fault.
 fn push_lines(
     text: &mut String,
     leaves: &[Leaf<'_>],
@@ -56,7 +55,8 @@ fn push_lines(
     Ok(())
 }
 
-/// Returns the message about `leaf`, whose number is `number`, as a leaf of the ambiguous `set`.
+/// Returns the message about `leaf` as a leaf of the ambiguous `set`. `number` is the number of
+/// `leaf`.
 fn disambiguation_text(
     alloc: Global,
     leaves: &[Leaf<'_>],
@@ -86,7 +86,7 @@ fn first_of(set: &[LeafId], number: LeafId) -> usize
     }
 }
 
-/// Reports `leaf`, whose number is `number`, as one of the leaves of the ambiguous `set`.
+/// Reports `leaf` as one of the leaves of the ambiguous `set`. `number` is the number of `leaf`.
 fn report_ambiguous(
     leaves: &[Leaf<'_>],
     set: &[LeafId],
@@ -105,8 +105,8 @@ fn report_ambiguous(
     errors.err_with(FaultCode::Disambiguation, text.as_str(), leaf.span, detail)
 }
 
-/// Reports the leaf with this number as one of the leaves of the ambiguous `set`. Adds nothing if
-/// no leaf has the number.
+/// Reports the leaf with the number `number` as one of the leaves of the ambiguous `set`. Reports
+/// nothing if no leaf has this number.
 fn report_numbered(
     leaves: &[Leaf<'_>],
     set: &[LeafId],
@@ -122,7 +122,7 @@ fn report_numbered(
     }
 }
 
-/// Reports each leaf of the ambiguous `set`, in a fault of its own.
+/// Reports each leaf of the ambiguous `set` in a separate fault.
 fn report_set(leaves: &[Leaf<'_>], set: &[LeafId], errors: &mut Errors) -> Result<(), Memory>
     ensures { OnOk result (errors.new ≡ errors.old ++ flat_map (disambiguation_faults
         (map named_leaf leaves.now) (numbers set.now)) (numbers set.now)) }
@@ -133,7 +133,7 @@ fn report_set(leaves: &[Leaf<'_>], set: &[LeafId], errors: &mut Errors) -> Resul
     Ok(())
 }
 
-/// Reports a leaf that can match the empty string.
+/// Reports that a leaf can match the empty string.
 fn report_empty(leaf: &Leaf<'_>, errors: &mut Errors) -> Result<(), Memory>
     ensures { OnOk result (errors.new ≡ errors.old ++ empty_match_faults (named_leaf leaf.now)) }
 {
@@ -144,8 +144,8 @@ fn report_empty(leaf: &Leaf<'_>, errors: &mut Errors) -> Result<(), Memory>
     errors.err(FaultCode::EmptyMatch, text.as_str(), leaf.span)
 }
 
-/// Reports the leaf with this number as one that can match the empty string. Adds nothing if no
-/// leaf has the number.
+/// Reports that the leaf with the number `number` can match the empty string. Reports nothing if no
+/// leaf has this number.
 fn report_empty_match(
     leaves: &[Leaf<'_>],
     number: LeafId,

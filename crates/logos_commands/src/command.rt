@@ -1,4 +1,4 @@
-//! The commands of `logos`, read from its arguments. Used by `program`.
+//! Reads the commands of `logos` from arguments. Used by `program`.
 
 ghost use Rattle.std.specs.Prelude.{◌≡◌, bytes_eq, map, option_map, string_bytes};
 ghost use Rattle.logos_commands.specs.Commands.{requested, diagram_in, command_requested, export_in, items_in, shape_in, strip_in, text_in};
@@ -12,7 +12,7 @@ use logos_options::OptionName;
 pub(super) enum Command<'w> {
     /// `gen`: print the generated code for the enum in the file.
     Text { file: &'w str, config: Config },
-    /// `lex`: print the items of the input, found with the lexer of the enum in the file.
+    /// `lex`: print the items that the lexer of the enum in the file finds in the input.
     Items(LexRequest<'w>),
     /// `mermaid`: print the state diagram of the lexer of the enum in the file.
     Diagram { file: &'w str },
@@ -22,7 +22,7 @@ pub(super) enum Command<'w> {
     Strip { file: &'w str },
 }
 
-/// Returns the command that `arguments` name, or `None` if they are invalid.
+/// Returns the command in `arguments`, or `None` if the arguments are invalid.
 pub(super) fn command_of(arguments: &[String]) -> Option<Command<'_>>
     ensures { option_map command_requested result ≡ requested (map string_bytes arguments.now) }
 {
@@ -54,7 +54,8 @@ fn is_word(word: &String, text: &str) -> bool
     word.as_str() == text
 }
 
-/// Returns the command `gen` with `arguments`, those after its name, or `None` if they are invalid.
+/// Returns the command `gen` with the arguments that follow its name, or `None` if the arguments
+/// are invalid.
 fn text_of(arguments: &[String]) -> Option<Command<'_>>
     ensures { option_map command_requested result ≡ text_in (map string_bytes arguments.now) }
 {
@@ -66,7 +67,8 @@ fn text_of(arguments: &[String]) -> Option<Command<'_>>
     Some(Command::Text { file, config })
 }
 
-/// Returns the command `lex` with `arguments`, those after its name, or `None` if they are invalid.
+/// Returns the command `lex` with the arguments that follow its name, or `None` if the arguments
+/// are invalid.
 fn items_of(arguments: &[String]) -> Option<Command<'_>>
     ensures { option_map command_requested result ≡ items_in (map string_bytes arguments.now) }
 {
@@ -81,8 +83,8 @@ fn items_of(arguments: &[String]) -> Option<Command<'_>>
     }))
 }
 
-/// Returns the command `mermaid` with `arguments`, those after its name, or `None` if they are
-/// invalid.
+/// Returns the command `mermaid` with the arguments that follow its name, or `None` if the
+/// arguments are invalid.
 fn diagram_of(arguments: &[String]) -> Option<Command<'_>>
     ensures { option_map command_requested result ≡ diagram_in (map string_bytes arguments.now) }
 {
@@ -94,8 +96,8 @@ fn diagram_of(arguments: &[String]) -> Option<Command<'_>>
     }
 }
 
-/// Returns the command `export` with `arguments`, those after its name, or `None` if they are
-/// invalid.
+/// Returns the command `export` with the arguments that follow its name, or `None` if the arguments
+/// are invalid.
 fn export_of(arguments: &[String]) -> Option<Command<'_>>
     ensures { option_map command_requested result ≡ export_in (map string_bytes arguments.now) }
 {
@@ -107,8 +109,8 @@ fn export_of(arguments: &[String]) -> Option<Command<'_>>
     }
 }
 
-/// Returns the command `strip` with `arguments`, those after its name, or `None` if they are
-/// invalid.
+/// Returns the command `strip` with the arguments that follow its name, or `None` if the arguments
+/// are invalid.
 fn strip_of(arguments: &[String]) -> Option<Command<'_>>
     ensures { option_map command_requested result ≡ strip_in (map string_bytes arguments.now) }
 {
@@ -120,8 +122,9 @@ fn strip_of(arguments: &[String]) -> Option<Command<'_>>
     }
 }
 
-/// Returns the code shape that `arguments`, those after the files of a command, select, or `None`
-/// if they are invalid. Without arguments, the shape is one loop over a state.
+/// Returns the code shape that `arguments` select, or `None` if the arguments are invalid.
+/// `arguments` are the arguments after the files of a command. Without arguments, the shape is one
+/// loop over the current state.
 fn shape_of(arguments: &[String]) -> Option<Config>
     ensures { result ≡ shape_in (map string_bytes arguments.now) }
 {

@@ -1,4 +1,4 @@
-//! The path of the file to which `export` writes a state diagram. Used by `outcome`.
+//! Determines the path of the file to which `export` writes a state diagram. Used by `outcome`.
 
 ghost use Rattle.std.specs.Prelude.{◌≡◌, IfErr, IfOk, option_copied, string_bytes};
 ghost use Rattle.logos_commands.specs.Views.{with_separator, destination, extension, file_at, file_in, refusal_by, FailsAt, IsNoMisuse};
@@ -8,7 +8,8 @@ use logos_host::{Failure, file_name};
 use std::alloc::{AllocError, Global};
 
 /// Returns the path of the file for the state diagram of the enum `name`. `path` is the export path
-/// of its source: the path of a file, or of a folder, in which the file has the enum's name in
+/// of its source. An export path with the extension `mmd` is the path of the file. An export path
+/// without an extension is the path of a folder. The file in this folder has the enum's name in
 /// lower case and the extension `mmd`.
 ///
 /// # Errors
@@ -34,7 +35,8 @@ pub(super) fn diagram_path(
     Err(refused_export(alloc, refused_by(extension)))
 }
 
-/// Returns the reason that the path of a diagram must not have `extension`, which is not `mmd`.
+/// Returns the reason why the path of a diagram must not have the extension `extension`, which is
+/// not `mmd`.
 fn refused_by(extension: &str) -> ExportRefusal
     ensures { result ≡ refusal_by extension.now }
 {
@@ -45,8 +47,8 @@ fn refused_by(extension: &str) -> ExportRefusal
     }
 }
 
-/// Returns the extension of a name, the part after its last `.`, or `None` if it has none. A
-/// leading `.` begins no extension, and `..` has none.
+/// Returns the extension of a name, the part after its last `.`, or `None` if the name has no
+/// extension. A leading `.` begins no extension, and `..` has no extension.
 fn extension_of(name: &str) -> Option<&str>
     ensures { option_copied result ≡ extension name.now }
 {
@@ -70,8 +72,8 @@ fn path_in(alloc: Global, folder: &str, name: &str) -> Result<String, AllocError
     Ok(path)
 }
 
-/// Returns the path `folder`, ready for a name to be appended: with `/` at its end, unless it is
-/// empty. Returns `AllocError` if memory runs out.
+/// Returns the path `folder` with `/` at its end, so that a name can be appended. An empty path
+/// remains empty. Returns `AllocError` if memory runs out.
 fn with_separator(alloc: Global, folder: &str) -> Result<String, AllocError>
     ensures { IfOk result (λ path. string_bytes path ≡ with_separator folder.now) }
 {

@@ -1,5 +1,5 @@
-//! The command `lex`: a line for each item of an input, written in blocks while the input is lexed.
-//! Used by `command` and `program`.
+//! Runs the command `lex`, which writes a line for each item of an input. The lines are written in
+//! blocks while the input is lexed. Used by `command` and `program`.
 
 ghost use Rattle.std.specs.Prelude.{◌≡◌, ◌++◌, ◌+◌, ◌<◌, ◌≤◌, ℕ, List, [], IfErr, OnOk, IsTrue, IsUtf8, vec_len, vec_capacity};
 ghost use Rattle.logos_commands.specs.Views.{Appends, Keeps, TakesMatches, Action as Answer, answers_of, item_of, WritesLines, emits, line_of, AppendsFront, status_of, IsNoMisuse, IsOutputFailure, IsLookedAt, IsTornBy, PrintsItems, PrintsItemsOf, RefusesInput, RefusesItems};
@@ -19,8 +19,7 @@ use logos_scan::walk::masks::ChunkEntries;
 use std::alloc::Global;
 use std::io::Write;
 
-/// The length in bytes from which on a block is full. Only the last block that is written is
-/// shorter.
+/// The length in bytes at which a block is full. Only the last written block is shorter.
 const BLOCK: usize = 65_536;
 
 /// A request for the items of an input: the paths of the source and of the input, and the shape of
@@ -32,7 +31,7 @@ pub(super) struct LexRequest<'w> {
     pub(super) config: Config,
 }
 
-/// Writes a line to `out` for each item of an input, found by the lexer of the enum in a file.
+/// Writes a line to `out` for each item that the lexer of the enum in a file finds in an input.
 ///
 /// The source and the input are validated before the first item is written. After that, only
 /// writing can fail.
@@ -40,7 +39,8 @@ pub(super) struct LexRequest<'w> {
 /// # Errors
 ///
 /// Returns the failure to read a file, `Refused` if the source is refused, `NotUtf8` if the lexer
-/// requires UTF-8 and the input is not, `Memory` if memory runs out, and the failure of the output.
+/// requires UTF-8 and the input is not UTF-8, `Memory` if memory runs out, and the failure to write
+/// to `out`.
 pub(super) fn lex<'w, F: Files, O: Write>(
     alloc: Global,
     request: LexRequest<'w>,
@@ -68,7 +68,7 @@ pub(super) fn lex<'w, F: Files, O: Write>(
     )
 }
 
-/// Writes a line to `out` for each item of `input`, found by the lexer of the source `source`.
+/// Writes a line to `out` for each item that the lexer of the source `source` finds in `input`.
 fn lex_by_source<O: Write>(
     alloc: Global,
     source: &str,
@@ -90,7 +90,7 @@ fn lex_by_source<O: Write>(
     }
 }
 
-/// Writes a line to `out` for each item of `input`, found by the lexer with the code `code`.
+/// Writes a line to `out` for each item that the lexer with the code `code` finds in `input`.
 fn lex_by_code<O: Write>(
     alloc: Global,
     code: &Code<'_>,
@@ -122,8 +122,9 @@ fn lex_by_code<O: Write>(
     }
 }
 
-/// Writes the bytes of `block`, and after them a line for each item of `input`, found in chunks, to
-/// `out`, and flushes it. The lines are collected in `block`. Only writing can fail.
+/// Writes the bytes of `block` to `out`, followed by a line for each item of `input`, and flushes
+/// `out`. The items are found chunk by chunk, and their lines are collected in `block`. Only
+/// writing can fail.
 fn write_by_chunks<C: Fn(LeafId, &[u8]) -> Action, O: Write>(
     folded: &Folded<'_, '_>,
     input: &[u8],
@@ -148,8 +149,8 @@ fn write_by_chunks<C: Fn(LeafId, &[u8]) -> Action, O: Write>(
     print_bytes(block, out)
 }
 
-/// Writes the bytes of `block`, and after them a line for each further item of a lexer, to `out`,
-/// and flushes it. The lines are collected in `block`. Only writing can fail.
+/// Writes the bytes of `block` to `out`, followed by a line for each further item of a lexer, and
+/// flushes `out`. The lines are collected in `block`. Only writing can fail.
 fn write_lines<C: Fn(LeafId, &[u8]) -> Action, O: Write>(
     lexer: &mut Lexer<'_, '_, '_, C>,
     block: &mut Vec<u8>,
@@ -170,7 +171,7 @@ fn write_lines<C: Fn(LeafId, &[u8]) -> Action, O: Write>(
     print_bytes(block, out)
 }
 
-/// Writes `block` to `out` and empties it, if it has at least [`BLOCK`] bytes.
+/// Writes `block` to `out` and empties the block if it has at least [`BLOCK`] bytes.
 fn write_if_full<O: Write>(block: &mut Vec<u8>, out: &mut O) -> Result<(), Failure<'static>>
     ensures few { vec_len block.new < BLOCK }
     ensures room { vec_capacity block.new ≡ vec_capacity block.old }

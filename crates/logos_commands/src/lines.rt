@@ -1,4 +1,4 @@
-//! The lines that the command `lex` writes for items. Used by `item_lines`.
+//! Formats the lines that the command `lex` writes for items. Used by `item_lines`.
 
 ghost use Rattle.std.specs.Prelude.{◌≡◌, ◌+◌, ◌≤◌, ◌++◌, length, drop};
 ghost use Rattle.logos_commands.specs.Imports.{item_of, line_of, span_line};
@@ -11,7 +11,8 @@ use logos_codegen::token::Span;
 /// separators between them.
 pub(super) const LONGEST: usize = 70;
 
-/// Writes the line of an item at the end of `line`, and returns the index at which it begins there.
+/// Writes the line of an item at the end of `line`, and returns the index in `line` at which the
+/// written text begins.
 #[inline(always)]
 pub(super) fn write_line(line: &mut [u8; LONGEST], item: Item<'_>) -> usize
     ensures { drop result line.new ≡ line_of (item_of item.entry) }
@@ -30,7 +31,8 @@ pub(super) fn write_line(line: &mut [u8; LONGEST], item: Item<'_>) -> usize
     }
 }
 
-/// Writes a span and LF at the end of `line`, and returns the index at which they begin there.
+/// Writes a span and LF at the end of `line`, and returns the index in `line` at which the written
+/// text begins.
 #[inline(always)]
 fn write_span(line: &mut [u8; LONGEST], span: Span) -> usize
     ensures row_start { (27 ≤ result) × (result ≤ LONGEST) }

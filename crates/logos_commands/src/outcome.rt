@@ -1,4 +1,5 @@
-//! The outcomes of commands. Each is complete before any of it is written. Used by `program`.
+//! Creates the outcomes of commands. Each outcome is complete before any part of it is written.
+//! Used by `program`.
 
 ghost use Rattle.std.specs.Prelude.{◌≡◌, ◌≢◌, ◌++◌, ◌∷◌, [], IfErr, IfOk, option_map, string_bytes};
 ghost use Rattle.logos_commands.specs.Views.{IsCodeText, around_made, ident_slice, mermaid_of, export_destination, file_at, EndsWithLine, FailsAt, IsNoMisuse, effect_of, status_of, IsLeft, IsPart, IsPartOf, ReadsSource, prints, shape_of, RefusesExport, RefusesLexer, RefusesStripping};
@@ -37,7 +38,7 @@ const ANY_SHAPE: Config = Config {
     use_state_machine_codegen: true,
 };
 
-/// Returns the requested part of the lexer of the source in the file `file`, as an outcome.
+/// Returns the requested part of the lexer of the source in the file `file` as an outcome.
 ///
 /// # Errors
 ///
@@ -61,8 +62,8 @@ pub(super) fn of_file<'w, F: Files>(
     of_source(alloc, source.as_str(), requested)
 }
 
-/// Returns the requested part of the lexer of a source, as an outcome, or the failure if there is
-/// none.
+/// Returns the requested part of the lexer of a source as an outcome, or the failure to create the
+/// outcome.
 fn of_source(
     alloc: Global,
     source: &str,
@@ -79,7 +80,7 @@ fn of_source(
     }
 }
 
-/// Returns the code shape of the lexer from which the requested part is made.
+/// Returns the code shape of the lexer from which the requested part is created.
 fn shape_of(requested: Requested) -> Config
     ensures { result ≡ shape_of requested }
 {
@@ -89,7 +90,7 @@ fn shape_of(requested: Requested) -> Config
     }
 }
 
-/// Returns the requested part of a lexer, as an outcome, or the failure if there is none.
+/// Returns the requested part of a lexer as an outcome, or the failure to create the outcome.
 fn of_lexer(
     alloc: Global,
     made: &Generated<'_>,
@@ -168,7 +169,7 @@ fn stripped_source(alloc: Global, source: &str) -> Result<String, Failure<'stati
 }
 
 /// Returns the state diagram of a lexer, for the file that its source names. Returns `Refused` if
-/// the source names none, and `Memory` if memory runs out.
+/// the source names no file, and `Memory` if memory runs out.
 fn export_of_lexer(alloc: Global, made: &Generated<'_>) -> Result<CommandOutcome, Failure<'static>>
     ensures diagram { IfOk result (λ outcome. IsPart Requested.Export (around_made made.now)
         made.now.graph made.now.code (ident_slice made.now.name)
@@ -186,8 +187,8 @@ fn export_of_lexer(alloc: Global, made: &Generated<'_>) -> Result<CommandOutcome
     Ok(CommandOutcome::Diagram { path, text })
 }
 
-/// Returns the path of the file that a source names for its diagram. Returns `Refused` if it names
-/// none, or one with another extension, and `Memory` if memory runs out.
+/// Returns the path of the file that a source names for its diagram. Returns `Refused` if the
+/// source names no file or a file with another extension, and `Memory` if memory runs out.
 fn path_of_diagram(alloc: Global, made: &Generated<'_>) -> Result<String, Failure<'static>>
     ensures file { IfOk result (λ diagram. file_at (string_bytes diagram) ≡ export_destination
         (option_map string_bytes made.now.export_path) made.now.name.text.now) }
@@ -201,7 +202,8 @@ fn path_of_diagram(alloc: Global, made: &Generated<'_>) -> Result<String, Failur
     }
 }
 
-/// Returns the state diagram of a graph, after testing that each state differs from the next.
+/// Returns the state diagram of a graph, after testing that no two consecutive states are
+/// equivalent.
 fn tested_diagram(alloc: Global, graph: &Graph<'_>) -> Result<String, Failure<'static>>
     ensures diagram { IfOk result (λ text. string_bytes text ≡ mermaid_of graph.now.states) }
     ensures failed { IfErr result (λ failure. status_of failure ≡ 3) }
@@ -225,7 +227,7 @@ fn test_neighbours(alloc: Global, graph: &Graph<'_>) -> Result<(), Failure<'stat
     Ok(())
 }
 
-/// Refuses two different states of a graph unless a text is found that distinguishes them.
+/// Refuses a graph unless a text is found that distinguishes its two different states `s` and `t`.
 fn test_pair(alloc: Global, graph: &Graph<'_>, s: State, t: State) -> Result<(), Failure<'static>>
     ensures { IfErr result (λ failure. status_of failure ≡ 3) }
 {

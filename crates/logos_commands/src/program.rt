@@ -1,4 +1,5 @@
-//! The program `logos`, from its arguments to its exit status. Used by `logos_program`.
+//! Runs the program `logos` with its arguments, and returns the exit status. Used by
+//! `logos_program`.
 
 ghost use Rattle.std.specs.Prelude.{◌≡◌, ◌≢◌, ◌≤◌, ◌⊎◌, ◌↔◌, None, map, string_bytes, IfErr, IfOk, IfSome, OnOk};
 ghost use Rattle.logos_commands.specs.Views.{Appends, Carries, Failure as Why, HasEffect, IsDenied, IsDone, IsLeft, IsPartOf, IsTouched, Keeps, ReadsSource, RefusesLexer, RefusesStripping, Touches, WritesFor, requested, effect_of, status_of};
@@ -13,7 +14,7 @@ use std::io::Write;
 const USAGE: &str = "usage: logos gen|lex|strip|mermaid|export FILE ..\n";
 
 /// Runs the program with `arguments`, and returns the exit status of `run`. If the arguments could
-/// not be read, writes the message of the failure to `err`, and returns its exit status.
+/// not be read, writes the message of the failure to `err` and returns the failure's exit status.
 pub fn run_with<F: Files, O: Write, E: Write>(
     alloc: Global,
     arguments: Result<Vec<String>, Failure<'static>>,
@@ -45,12 +46,12 @@ pub fn run_with<F: Files, O: Write, E: Write>(
     }
 }
 
-/// Runs the command that `arguments` name, and returns the exit status: 0 if it was carried out, 1
-/// if the source, the input or the export path was refused, 2 if the arguments are not a command, 3
-/// if a file, the output or the memory failed.
+/// Runs the command in `arguments`, and returns the exit status: 0 if the command was carried out,
+/// 1 if the source, the input or the export path was refused, 2 if the arguments are not a command,
+/// and 3 if a file, the output or memory failed.
 ///
-/// If the exit status is not 0, a message is written to `err`, and nothing was written to `out`,
-/// unless writing to `out` failed.
+/// If the exit status is not 0, a message is written to `err`. Nothing is then written to `out`,
+/// unless writing to `out` fails.
 pub fn run<F: Files, O: Write, E: Write>(
     alloc: Global,
     arguments: &[String],
@@ -100,8 +101,8 @@ const NO_COMMAND: Failure<'static> = Failure::Misuse {
     word: "",
 };
 
-/// Writes the requested part of the lexer of the source in a file, which `request` names first, to
-/// `out` or to another file, and returns the exit status.
+/// Writes the requested part of a lexer to `out` or to a file, and returns the exit status.
+/// `request` consists of the path of the source and the requested part.
 fn run_part<F: Files, O: Write, E: Write>(
     alloc: Global,
     request: (&str, Requested),
@@ -124,7 +125,7 @@ fn run_part<F: Files, O: Write, E: Write>(
     }
 }
 
-/// Writes the enum in the file `file`, without the attributes of the derive macro, to `out`, and
+/// Writes the enum in the file `file` without the attributes of the derive macro to `out`, and
 /// returns the exit status.
 fn run_strip<F: Files, O: Write, E: Write>(
     alloc: Global,

@@ -1,5 +1,5 @@
-//! Refusals as failures whose text `logos` prints: a line for each fault, or the reason that a
-//! diagram is not exported. Used by `diagram_path`, `item_lines` and `outcome`.
+//! Turns refusals into failures with the text that `logos` prints: a line for each fault, or the
+//! reason why a diagram is not exported. Used by `diagram_path`, `item_lines` and `outcome`.
 
 ghost use Rattle.std.specs.Prelude.{◌≡◌, ◌++◌, IfOk, OnOk, string_bytes};
 ghost use Rattle.logos_commands.specs.Views.{IsNoMisuse, IsRefusalOf, IsUnexportedBy, export_line, fault_head, fault_line, fault_lines, fault_of, faults_of, flat_map, line_character, on_one_line};
@@ -9,14 +9,14 @@ use logos_codegen::error::{Errors, Memory, SpannedError};
 use logos_host::Failure;
 use std::alloc::Global;
 
-/// The reason that a diagram is not exported.
+/// The reason why a diagram is not exported.
 #[derive(Clone, Copy)]
 pub(super) enum ExportRefusal {
-    /// The source has no export path.
+    /// A source without an export path.
     NoPath,
-    /// The path is for a diagram in the language DOT.
+    /// A path for a diagram in the language DOT.
     Dot,
-    /// The path has an extension that no diagram has.
+    /// A path with an extension that no diagram has.
     Extension,
 }
 
@@ -45,7 +45,7 @@ pub(super) fn refused_export(alloc: Global, why: ExportRefusal) -> Failure<'stat
     }
 }
 
-/// Returns the line, with LF, that reports the reason `why`.
+/// Returns the line that reports the reason `why`, including the LF.
 fn export_line(why: ExportRefusal) -> &'static str
     ensures { result.now ≡ export_line why }
 {
@@ -59,8 +59,8 @@ fn export_line(why: ExportRefusal) -> &'static str
 }
 
 /// Returns the lines of all faults, or `Memory` if memory runs out. Reserves the memory for the
-/// lines in one step: the faults of thousands of equal leaves have hundreds of megabytes, and a
-/// text that grows by doubling takes up to twice as much.
+/// lines in one step, because the faults of thousands of equal leaves take hundreds of megabytes,
+/// and a text that grows by doubling takes up to twice as much.
 fn fault_lines(errors: &Errors) -> Result<String, Memory>
     ensures { IfOk result (λ text. string_bytes text ≡ fault_lines errors.now) }
 {
@@ -70,11 +70,12 @@ fn fault_lines(errors: &Errors) -> Result<String, Memory>
     Ok(text)
 }
 
-/// An estimate of the number of bytes of a line besides its message: two numbers, a code, and the
-/// separators. Most lines have fewer.
+/// An estimate of the number of bytes in a line apart from its message: two numbers, a code, and
+/// the separators. Most lines have fewer bytes.
 const BESIDE_MESSAGE: usize = 80;
 
-/// Returns an estimate of the number of bytes of the lines of `faults`. No proof depends on it.
+/// Returns an estimate of the number of bytes in the lines of `faults`. No proof depends on this
+/// estimate.
 fn size_of_lines(faults: &[SpannedError]) -> usize {
     let mut size: usize = 0;
     for fault in faults {
@@ -84,7 +85,7 @@ fn size_of_lines(faults: &[SpannedError]) -> usize {
     size
 }
 
-/// Returns the number of bytes of `message` with `\n` in place of each LF.
+/// Returns the number of bytes in `message` with `\n` in place of each LF.
 fn size_on_one_line(message: &[u8]) -> usize {
     let mut size = message.len();
     for byte in message {
@@ -117,7 +118,7 @@ fn push_line(text: &mut String, fault: &SpannedError) -> Result<(), Memory>
     Ok(())
 }
 
-/// Appends the span and the code of a fault, the beginning of its line, to `text`.
+/// Appends the beginning of a fault's line to `text`: the span and the code of the fault.
 fn push_head(text: &mut String, fault: &SpannedError) -> Result<(), Memory>
     ensures { OnOk result (string_bytes text.new
         ≡ string_bytes text.old ++ fault_head (fault_of fault.now)) }

@@ -11,8 +11,8 @@ use logos_pattern::leaf::Callback;
 use logos_token::error::{Errors, Memory};
 use logos_token::token::{Ident, Tokens};
 
-/// Sets `callback` from the argument `callback`, or reports the fault of that argument. After an
-/// error `callback` is unchanged.
+/// Sets `callback` from the argument `callback`, and reports the argument's faults. After an error,
+/// `callback` is unchanged.
 pub(crate) fn add_callback<'s>(
     callback: &mut Option<Callback<'s>>,
     name: Ident<'s>,
@@ -32,8 +32,9 @@ pub(crate) fn add_callback<'s>(
     Ok(())
 }
 
-/// Reads an argument without a name: sets `callback` if it is the first argument, and reports it
-/// otherwise. A first argument that is not a callback is reported, and sets `None`.
+/// Sets `callback` to the callback that `tokens`, an argument without a name, spell. Reports the
+/// argument if `first` is `false`. If a first argument is not a callback, reports it and sets
+/// `callback` to `None`.
 pub(crate) fn add_unnamed<'s>(
     callback: &mut Option<Callback<'s>>,
     first: bool,

@@ -1,5 +1,5 @@
 //! Reads definitions: the literal of a `token`, `regex` or `skip(..)`, and the arguments after it.
-//! `logos_leaf` reads a definition for each `token` and `regex`, and the parser one for each
+//! `logos_leaf` reads a definition for each `token` and `regex`, and the parser reads one for each
 //! `skip(..)`.
 
 ghost use Rattle.std.specs.Prelude.{◌≡◌, OnOk, OnErr, IfOk, option_map, true};
@@ -35,8 +35,9 @@ pub struct Definition<'s> {
     pub ignore_flags: IgnoreFlags,
 }
 
-/// Sets `priority` to the number that `tokens` spell. Reports and replaces a former one. Reports
-/// tokens that are not a number, and sets nothing. After an error the priority is unchanged.
+/// Sets `priority` to the number that `tokens` spell, and reports a second priority. If `tokens`
+/// are not a number, reports them and leaves the priority unchanged. After an error, the priority
+/// is unchanged.
 fn set_priority(
     priority: &mut Option<usize>,
     tokens: Tokens<'_, '_>,
@@ -58,9 +59,9 @@ fn set_priority(
     Ok(())
 }
 
-/// Sets `allow`, the value of `allow_greedy`, to the boolean that `tokens` spell. Reports and
-/// replaces a former one. Reports tokens that are not a boolean, and sets nothing. After an error
-/// the value is unchanged.
+/// Sets `allow`, the value of `allow_greedy`, to the boolean that `tokens` spell, and reports a
+/// second value. If `tokens` are not a boolean, reports them and leaves the value unchanged. After
+/// an error, the value is unchanged.
 fn set_greedy(
     allow: &mut Option<bool>,
     tokens: Tokens<'_, '_>,
@@ -96,8 +97,8 @@ impl<'s> Definition<'s> {
         }
     }
 
-    /// Sets the priority from the argument `priority`, or reports the fault of that argument. After
-    /// an error the definition is unchanged.
+    /// Sets the priority from the argument `priority`, and reports the argument's faults. After an
+    /// error, the definition is unchanged.
     fn add_priority(
         &mut self,
         name: Ident<'s>,
@@ -117,7 +118,7 @@ impl<'s> Definition<'s> {
         Ok(())
     }
 
-    /// Sets the flags in `ignore(..)`, and reports the fault of that argument. After an error the
+    /// Sets the flags in `ignore(..)`, and reports the argument's faults. After an error, the
     /// definition is unchanged.
     fn add_ignore(
         &mut self,
@@ -139,7 +140,7 @@ impl<'s> Definition<'s> {
         Ok(())
     }
 
-    /// Sets the value of `allow_greedy`, or reports the fault of that argument. After an error the
+    /// Sets the value of `allow_greedy`, and reports the argument's faults. After an error, the
     /// definition is unchanged.
     fn add_greedy(
         &mut self,
@@ -160,7 +161,7 @@ impl<'s> Definition<'s> {
     }
 
     /// Adds the argument `name` with `value` to the definition, and reports the argument's faults.
-    /// After an error the definition is unchanged.
+    /// After an error, the definition is unchanged.
     pub(crate) fn add_named(
         &mut self,
         name: Ident<'s>,
@@ -187,8 +188,9 @@ impl<'s> Definition<'s> {
         report_unknown(name, errors)
     }
 
-    /// Adds an argument after the literal to the definition, and reports its faults. A callback
-    /// without a name can only be the `first` argument.
+    /// Adds an argument after the literal to the definition, and reports the argument's faults.
+    /// `first` is `true` for the first argument. Only the first argument can be a callback without
+    /// a name.
     fn add_argument(
         &mut self,
         first: bool,
@@ -227,9 +229,9 @@ impl<'s> Definition<'s> {
     }
 }
 
-/// Reads the definition in the parentheses of `token`, `regex` or `skip`. Returns `None` if
-/// `tokens` do not begin with a string or byte string, and reports the tokens that come instead, if
-/// there are any. After `Memory` some of the faults may have been added.
+/// Reads the definition in the parentheses of `token`, `regex` or `skip`. If `tokens` do not begin
+/// with a string or byte string, returns `None`, and reports the tokens found instead, if there are
+/// any. If memory runs out, some of the faults may have been added.
 pub(crate) fn read_definition<'s>(
     tokens: Tokens<'_, 's>,
     errors: &mut Errors,

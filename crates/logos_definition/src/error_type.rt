@@ -1,4 +1,4 @@
-//! Reads error types and their callbacks. The parser calls `error_in` at `error(..)` in
+//! Reads error types and their callbacks. The parser calls `error_in` for `error(..)` in
 //! `logos(..)`.
 
 ghost use Rattle.std.specs.Prelude.{OnOk, IfOk, option_map, true, ◌≡◌, OnErr, string_bytes};
@@ -55,7 +55,7 @@ impl<'s> ErrorType<'s> {
         }
     }
 
-    /// Returns the error type `()`, without a callback. Takes no memory.
+    /// Returns the error type `()`, without a callback. Does not allocate.
     pub fn default(_alloc: Global) -> ErrorType<'s>
         ensures { error_view result ≡ no_error }
     {
@@ -66,8 +66,9 @@ impl<'s> ErrorType<'s> {
         }
     }
 
-    /// Returns the text of the type: that of `type_expr` if the type was read, and otherwise that
-    /// of its tokens, or `()` if there are none. Lifetimes and parameters are those in the source.
+    /// Returns the text of the type: the text of `type_expr` if the type was read, and otherwise
+    /// the text of the tokens, or `()` if there are no tokens. Lifetimes and parameters are printed
+    /// as in the source.
     ///
     /// # Errors
     ///
@@ -81,8 +82,8 @@ impl<'s> ErrorType<'s> {
         }
     }
 
-    /// Returns the span of the type in the source, from its first token to its last one, or `0..0`
-    /// if it has no tokens.
+    /// Returns the span of the type in the source, from the first token to the last, or `0..0` if
+    /// the type has no tokens.
     pub fn span(&self) -> Span
         ensures { result ≡ error_span (error_view self.now) }
     {
@@ -92,8 +93,8 @@ impl<'s> ErrorType<'s> {
         }
     }
 
-    /// Adds the argument `name` with `value`, and reports the argument's faults. After an error the
-    /// type is unchanged.
+    /// Adds the argument `name` with `value` to the error type, and reports the argument's faults.
+    /// After an error, the error type is unchanged.
     pub(crate) fn add_named(
         &mut self,
         name: Ident<'s>,
@@ -111,8 +112,9 @@ impl<'s> ErrorType<'s> {
         report_unknown(name, errors)
     }
 
-    /// Adds an argument after the type, and reports its faults. A callback without a name can only
-    /// be the `first` argument.
+    /// Adds an argument after the type to the error type, and reports the argument's faults.
+    /// `first` is `true` for the first argument. Only the first argument can be a callback without
+    /// a name.
     fn add_argument(
         &mut self,
         first: bool,
@@ -131,7 +133,7 @@ impl<'s> ErrorType<'s> {
         Ok(())
     }
 
-    /// Adds all arguments after the type, and reports their faults.
+    /// Adds all arguments after the type to the error type, and reports their faults.
     pub(crate) fn add_arguments(
         &mut self,
         pieces: AttributeParser<'_, 's>,
@@ -151,7 +153,7 @@ impl<'s> ErrorType<'s> {
     }
 }
 
-/// Reports that `group`, the tokens in `error(..)`, has no type.
+/// Reports that the group of `error(..)` contains no type. `group` are the tokens of the group.
 fn report_empty(group: Tokens<'_, '_>, errors: &mut Errors) -> Result<(), Memory>
     ensures { OnOk result (AddsFault (error_empty (tokens_of group.entry)) errors.old errors.new) }
 {
@@ -163,8 +165,8 @@ fn report_empty(group: Tokens<'_, '_>, errors: &mut Errors) -> Result<(), Memory
     )
 }
 
-/// Returns the error type `type_expr`, which was read from `run`, with the arguments after it. The
-/// first argument can be a callback without a name.
+/// Returns the error type `type_expr` with the arguments in `pieces`, and reports the arguments'
+/// faults. `run` are the tokens of the type. The first argument can be a callback without a name.
 fn with_arguments<'s>(
     run: Tokens<'_, 's>,
     type_expr: TypeExpr<'s>,
@@ -185,8 +187,8 @@ fn with_arguments<'s>(
     Ok(error)
 }
 
-/// Reads the error type in `error(..)`. If the group does not begin with a type, reports that at
-/// the span of the whole group and returns `None`.
+/// Reads the error type in `error(..)`. If the group does not begin with a type, reports the fault
+/// at the span of the group and returns `None`.
 pub(crate) fn error_in<'s>(
     group: Tokens<'_, 's>,
     errors: &mut Errors,

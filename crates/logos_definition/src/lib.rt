@@ -1,5 +1,5 @@
-//! Reads the attributes of an enum and its variants: definitions, and the options of a lexer.
-//! `logos_leaf` calls its `Parser` for each attribute.
+//! Reads the definitions and the options of a lexer from the attributes of an enum and its
+//! variants. `logos_leaf` uses `Parser` for each attribute.
 
 #![tactic(auto)]
 

@@ -16,8 +16,8 @@ pub struct Meta<'t, 's> {
     pub arguments: Option<Tokens<'t, 's>>,
 }
 
-/// Returns the attribute `name`, where `tokens` are the tokens after the name. Returns `None` if
-/// its path continues with `:`.
+/// Returns the attribute with the name `name`. `tokens` are the tokens after the name. Returns
+/// `None` if the path of the attribute continues with `:`.
 fn after_name<'t, 's>(name: Ident<'s>, tokens: Tokens<'t, 's>) -> Option<Meta<'t, 's>>
     ensures { MatchOption result
         (after_name (ident_slice name.entry) (tokens_of tokens.entry) ≡ None)

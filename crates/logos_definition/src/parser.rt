@@ -3,8 +3,9 @@
 ghost use Rattle.std.specs.Prelude.{◌≡◌, IfOk, OnOk, OnErr, option_map, true, false, []};
 ghost use Rattle.logos_definition.specs.Views.{tokens_of, literal_slice, IsReport, AddsFault, fault, pieces, text_report, literal_view, definition_report, no_options, utf8_mode, ReadsPieces, ident_slice, value_of, named_report, error_named_report, flags_report, definition_view, parser_view, HasNotFailed, error_view};
 
-/// Runs `$call`, which changes `$parser`, and returns its result. Returns `Memory` at once if the
-/// parser has failed, and lets the parser fail if the call returns an error.
+/// Evaluates `$call`, which changes `$parser`, and returns the result of the call. Returns `Memory`
+/// without the call if the parser has failed. Marks the parser as failed if the call returns an
+/// error.
 macro_rules! unless_failed {
     ($parser:expr, $call:expr) => {{
         if $parser.failed {
@@ -35,7 +36,7 @@ use logos_token::util::MaybeVoid;
 use logos_type_params::TypeParams;
 use std::alloc::Global;
 
-/// The UTF-8 mode: whether inputs are UTF-8, and the span of the option's value in the source.
+/// The UTF-8 mode, with the span of the option's value in the source.
 #[derive(Clone, Copy)]
 pub struct Utf8Mode {
     pub value: bool,
@@ -43,7 +44,7 @@ pub struct Utf8Mode {
     pub span: Span,
 }
 
-/// The path of the exported state diagram, and the span of the option's value in the source.
+/// The path of the exported state diagram, with the span of the option's value in the source.
 #[derive(Drop)]
 pub struct ExportPath {
     pub path: String,
@@ -51,15 +52,17 @@ pub struct ExportPath {
     pub span: Span,
 }
 
-/// The options in the attributes of an enum, as far as they have been read, and the faults in them.
-/// If memory runs out in a call that changes the parser, the parser has failed, and each later call
-/// that changes it returns `Memory`.
+/// The options that have been read from the attributes of an enum, and the faults of these
+/// attributes.
+///
+/// If memory runs out in a call that changes the parser, the parser has failed: each later call
+/// that changes the parser returns `Memory`.
 #[derive(Drop)]
 pub struct Parser<'s> {
     pub errors: Errors,
     pub utf8_mode: Option<Utf8Mode>,
-    /// The definitions of `skip` that are not leaves yet, in source order. There are none once the
-    /// leaves of the enum have been read.
+    /// The definitions of `skip` that are not leaves yet, in source order. The list is empty once
+    /// the leaves of the enum have been read.
     pub skips: Vec<Definition<'s>>,
     pub extras: MaybeVoid<'s>,
     /// The subpatterns with their names, in source order.
@@ -68,14 +71,14 @@ pub struct Parser<'s> {
     /// The path of the crate in the generated code, or `None` if the option `crate` does not occur.
     pub logos_path: Option<TokenStream<'s>>,
     pub export_path: Option<ExportPath>,
-    /// The declared type parameters, and the types given to them.
+    /// The declared type parameters, with the types assigned to them.
     pub types: TypeParams<'s>,
     alloc: Global,
     failed: bool,
 }
 
 impl<'s> Parser<'s> {
-    /// Returns a parser without options or faults, which takes its memory from `alloc`.
+    /// Returns a parser without options or faults. The parser allocates its memory with `alloc`.
     pub fn new(alloc: Global) -> Parser<'s>
         ensures options { parser_view result ≡ no_options }
         ensures errors { result.errors ≡ [] }
@@ -106,8 +109,8 @@ impl<'s> Parser<'s> {
         }
     }
 
-    /// Adds the arguments `tokens`, those in the parentheses of a `logos` attribute, and reports
-    /// their faults.
+    /// Adds the arguments of a `logos` attribute, and reports their faults. `tokens` are the tokens
+    /// between the parentheses of the attribute.
     ///
     /// # Errors
     ///
@@ -122,7 +125,7 @@ impl<'s> Parser<'s> {
         unless_failed!(self, self.add_pieces(AttributeParser::new(tokens)))
     }
 
-    /// Adds a fault with `code`, `message` and `span` after the others.
+    /// Appends a fault with `code`, `message` and `span` to the list of faults.
     ///
     /// # Errors
     ///
@@ -137,8 +140,7 @@ impl<'s> Parser<'s> {
         unless_failed!(self, self.errors.err(code, message, span))
     }
 
-    /// Reads `literal` as a string or byte string. If it is neither, reports that and returns
-    /// `None`.
+    /// Reads `literal` as a string or byte string. Reports any other literal and returns `None`.
     ///
     /// # Errors
     ///
@@ -157,9 +159,9 @@ impl<'s> Parser<'s> {
         unless_failed!(self, read_text(self.alloc, literal, &mut self.errors))
     }
 
-    /// Reads the definition in the parentheses of a `token` or `regex`. Returns `None` if `tokens`
-    /// do not begin with a string or byte string, and reports the tokens that come instead, if
-    /// there are any.
+    /// Reads the definition in the parentheses of a `token` or `regex`. If `tokens` do not begin
+    /// with a string or byte string, returns `None`, and reports the tokens found instead, if there
+    /// are any.
     ///
     /// # Errors
     ///
@@ -181,7 +183,8 @@ impl<'s> Parser<'s> {
 
 impl<'s> Definition<'s> {
     /// Adds the argument `name` with `value` to the definition, and adds the argument's faults to
-    /// `parser`, which is otherwise unchanged. Memory is taken from the allocator of `parser`.
+    /// `parser`. The parser is otherwise unchanged. Memory is allocated with the allocator of
+    /// `parser`.
     ///
     /// # Errors
     ///
@@ -209,11 +212,13 @@ impl<'s> Definition<'s> {
 
 impl<'s> ErrorType<'s> {
     /// Adds the argument `name` with `value` to the error type, and adds the argument's faults to
-    /// `parser`, which is otherwise unchanged. Memory is taken from the allocator of `parser`.
+    /// `parser`. The parser is otherwise unchanged. Memory is allocated with the allocator of
+    /// `parser`.
     ///
     /// # Errors
     ///
-    /// Returns `Memory` if memory runs out. The parser has then failed, and the type is unchanged.
+    /// Returns `Memory` if memory runs out. The parser has then failed, and the error type is
+    /// unchanged.
     pub fn named_attr(
         &mut self,
         _alloc: Global,
@@ -235,9 +240,9 @@ impl<'s> ErrorType<'s> {
 }
 
 impl IgnoreFlags {
-    /// Sets the flags in `tokens`, the group after `ignore`, and adds the first fault among them to
-    /// `parser`, which is otherwise unchanged. `name` is the identifier `ignore`. Memory is taken
-    /// from the allocator of `parser`.
+    /// Sets the flags that occur in `tokens`, the group after `ignore`, and adds the first fault in
+    /// `tokens` to `parser`. The parser is otherwise unchanged. `name` is the identifier `ignore`.
+    /// Memory is allocated with the allocator of `parser`.
     ///
     /// # Errors
     ///

@@ -22,14 +22,14 @@ use std::alloc::Global;
 pub struct Derivation {
     /// The implementation, or `None` if the enum is refused.
     pub implementation: Option<Sink>,
-    /// The errors, in the order of their faults, and after them the warnings.
+    /// The errors in the order of their faults, followed by the warnings.
     pub diagnostics: Vec<Diagnostic>,
 }
 
 /// Returns the derivation of the enum that `source` spells. An enum without faults is accepted: it
 /// has an implementation in the shape `shape`, and no errors. An enum with faults is refused: it
-/// has no implementation, and at least one error, with the helps that `helps` adds. Both may have
-/// warnings.
+/// has no implementation, and at least one error, with the helps that `helps` adds. Accepted and
+/// refused enums may have warnings.
 ///
 /// # Errors
 ///
@@ -97,8 +97,8 @@ fn warnings_with(
     warnings_of(alloc, &warned)
 }
 
-/// Returns the derivation of a source that is refused for the faults `errors`: their errors, and
-/// the warnings.
+/// Returns the derivation of a source that is refused for the faults `errors`: the errors for these
+/// faults, and the warnings.
 fn refused<H: Helps>(
     alloc: Global,
     source: &str,
@@ -115,8 +115,9 @@ fn refused<H: Helps>(
     })
 }
 
-/// Returns the errors for the faults `errors` of a refused source, and after them its warnings.
-/// `known` is the explanation of the source, to whose clues `helps` adds the helps.
+/// Returns the errors for the faults `errors` of a refused source, followed by the warnings of the
+/// source. `known` is the explanation of the source. `helps` adds helps to the clues of this
+/// explanation.
 fn diagnostics_of<H: Helps>(
     alloc: Global,
     source: &str,

@@ -21,7 +21,8 @@ pub struct Diagnostic {
     pub message: String,
     /// The primary span.
     pub span: Span,
-    /// The span of the character at which a pattern is faulty, if it is not all of `span`.
+    /// The span of the character at which a pattern is faulty, or `None` if this span equals
+    /// `span`.
     pub carets: Option<Span>,
     /// Further spans, each with a label.
     pub labels: Vec<Label>,
@@ -53,7 +54,7 @@ pub(crate) fn add_label(span: Span, text: &str, labels: &mut Vec<Label>) -> Resu
     Ok(())
 }
 
-/// Appends the second span `also` of a fault or a warning to `labels`, unless it is `None`.
+/// Appends the second span `also` of a fault or a warning to `labels`, unless `also` is `None`.
 pub(crate) fn add_other(also: Option<Span>, labels: &mut Vec<Label>) -> Result<(), Memory> {
     match also {
         Some(span) => add_label(span, "see also", labels),
@@ -61,7 +62,7 @@ pub(crate) fn add_other(also: Option<Span>, labels: &mut Vec<Label>) -> Result<(
     }
 }
 
-/// Appends the line `text` to `notes`, as a line that is not a help.
+/// Appends the line `text`, which is not a help, to `notes`.
 pub(crate) fn add_note(text: &str, notes: &mut Vec<Note>) -> Result<(), Memory> {
     add_line(false, text, notes)
 }
@@ -71,7 +72,7 @@ pub(crate) fn add_help(text: &str, notes: &mut Vec<Note>) -> Result<(), Memory> 
     add_line(true, text, notes)
 }
 
-/// Appends the line `text` to `notes`, which is a help if `is_help` is set.
+/// Appends the line `text` to `notes`, marked as a help if `is_help` is `true`.
 fn add_line(is_help: bool, text: &str, notes: &mut Vec<Note>) -> Result<(), Memory> {
     let text = String::from_str(*notes.allocator(), text)?;
     notes.push(Note { is_help, text })?;

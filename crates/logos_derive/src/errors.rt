@@ -1,5 +1,5 @@
-//! The faults of an enum as errors: one for each fault that is not part of an earlier error, but at
-//! most 50 for faults with one code. Called by `derivation`.
+//! Turns the faults of an enum into errors: one for each fault that is not part of an earlier
+//! error, but at most 50 for faults with the same code. Called by `derivation`.
 
 ghost use Rattle.std.specs.Prelude.{◌≡◌, ◌≤◌, ◌++◌, IfOk, OnOk, length, map, take};
 ghost use Rattle.logos_derive.specs.Views.{errors_at, error_summaries, fault_of, faults_of, has_error, next_value, summary_of, error_summary, sizes_of};
@@ -36,8 +36,8 @@ pub(crate) fn errors_of(
     Ok(errors)
 }
 
-/// Appends to `errors` the error for `fault`, the fault at the index `number` of `faults`, if it
-/// has its own error. `next` is the state before the fault.
+/// Appends the error for `fault` to `errors` if the fault has its own error. `fault` is the fault
+/// at the index `number` of `faults`, and `next` is the state before the fault.
 fn add_fault(
     part: Part<'_, '_>,
     faults: &[SpannedError],
@@ -59,8 +59,9 @@ fn add_fault(
     Ok(())
 }
 
-/// Returns whether `fault`, before which are the faults `front`, has its own error. The first fault
-/// has one, so that no source is refused without an error.
+/// Returns whether `fault` has its own error. `front` consists of the faults before `fault`, and
+/// `next` is the state before `fault`. The first fault always has its own error, so that no source
+/// is refused without an error.
 fn has_error(front: &[SpannedError], next: NextFaults<'_>, fault: &SpannedError) -> bool
     ensures { result ≡ has_error (faults_of front.now) (next_value next.entry)
         (fault_of fault.now) }
@@ -107,7 +108,8 @@ fn error_of(
     })
 }
 
-/// Returns the faults from the index `number` to the last, or none if there are fewer faults.
+/// Returns the faults from the index `number` to the last, or no faults if there are fewer than
+/// `number`.
 fn rest_from(faults: &[SpannedError], number: usize) -> &[SpannedError] {
     match faults.get(number..) {
         Some(rest) => rest,
@@ -116,7 +118,7 @@ fn rest_from(faults: &[SpannedError], number: usize) -> &[SpannedError] {
 }
 
 /// Returns the number of faults with the code `code` from the index `number` to the last. Returns 0
-/// if there are fewer than `number` faults, or fewer than 50 faults before that index have the
+/// if there are fewer than `number` faults, or if fewer than 50 faults before this index have the
 /// code.
 fn left_out(faults: &[SpannedError], number: usize, code: FaultCode) -> usize {
     let Some(front) = faults.get(..number) else {
@@ -133,7 +135,8 @@ fn left_out(faults: &[SpannedError], number: usize, code: FaultCode) -> usize {
     count_in(listing, code)
 }
 
-/// Returns the span of the carets of a fault, or `None` if that is the whole span of the fault.
+/// Returns the span of the carets of a fault, or `None` if the carets cover the whole span of the
+/// fault.
 fn carets_of(part: Part<'_, '_>, fault: &SpannedError) -> Option<Span> {
     let carets = caret_span(part, fault);
     if (carets.from == fault.span.from) & (carets.to == fault.span.to) {

@@ -1,13 +1,14 @@
-//! The faults that are shown with an earlier error: its notes, and the other members of its set of
-//! ambiguous leaves. Called by `errors`.
+//! Finds the faults that are shown with an earlier error: the notes of the error, and the other
+//! members of its set of ambiguous leaves. Called by `errors`.
 
 use crate::diagnostic::{Label, add_label, add_other};
 use logos_report::{MOST, Member, NextFaults, begins_error, first_line};
 use logos_token::error::{Memory, SpannedError};
 use std::alloc::Global;
 
-/// Returns the faults at the beginning of `faults` with which no error begins, so that they belong
-/// to the error before them. `first` is the state before the first of `faults`.
+/// Returns the faults at the start of `faults` before the first fault that begins an error. The
+/// returned faults belong to the preceding error. `first` is the state before the first of
+/// `faults`.
 pub(crate) fn joined_to<'f>(
     faults: &'f [SpannedError],
     first: NextFaults<'_>,
@@ -23,9 +24,9 @@ pub(crate) fn joined_to<'f>(
     faults
 }
 
-/// Returns the further spans of the error for `fault`: the second span of the fault, if it has one,
-/// and the spans of `joined`, the faults that belong to the error, but of at most 50 of these.
-/// `first` is the state before the first of `joined`.
+/// Returns the further spans of the error for `fault`: the second span of the fault, if there is
+/// one, and the spans of the first 50 faults in `joined`. `joined` consists of the faults that
+/// belong to the error, and `first` is the state before the first of these faults.
 pub(crate) fn labels_of(
     alloc: Global,
     fault: &SpannedError,
@@ -42,9 +43,9 @@ pub(crate) fn labels_of(
     Ok(labels)
 }
 
-/// Appends to `labels` the span of a fault that belongs to an error. The label is the name of its
-/// leaf if `member` is the fault as a member of a set of ambiguous leaves, otherwise the first line
-/// of its message.
+/// Appends to `labels` the span of a fault that belongs to an error. If the fault is the member
+/// `member` of a set of ambiguous leaves, the label is the name of its leaf. Otherwise the label is
+/// the first line of the fault's message.
 fn add_joined(
     fault: &SpannedError,
     member: Option<Member<'_>>,

@@ -1,5 +1,6 @@
-//! Derives an enum: returns its implementation with the pieces of the source in it, or its errors,
-//! and its warnings. Called by `rust/logos-derive`, which turns the implementation into tokens.
+//! Derives an enum: returns its implementation, which contains pieces of the source, or its errors,
+//! and in both cases its warnings. Called by `rust/logos-derive`, which turns the implementation
+//! into tokens.
 
 #![tactic(auto)]
 

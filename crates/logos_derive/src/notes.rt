@@ -1,5 +1,5 @@
-//! The lines under an error: the other lines of its message, the clues and the help. Called by
-//! `errors`.
+//! Returns the lines under an error: the other lines of its message, the clues and the help. Called
+//! by `errors`.
 
 use crate::diagnostic::{Note, add_help, add_note};
 use logos_report::{MOST, Member, Part, Start, put_in};
@@ -15,19 +15,19 @@ pub(crate) struct KnownError<'f, 'p, 't> {
     /// The fault as a member of its set of ambiguous leaves, or `None` if no clue is about such a
     /// set.
     pub(crate) member: Option<Member<'f>>,
-    /// The patterns that explain the fault: for `NoUniversalStart` those that can examine the bytes
-    /// before their start, otherwise none.
+    /// The patterns that explain the fault. For `NoUniversalStart`, these are the patterns that can
+    /// examine the bytes before their start. For all other faults, there are none.
     pub(crate) starts: &'f [Start],
     /// The help for the fault, if there is one.
     pub(crate) help: Option<&'static str>,
-    /// The number of later faults with the code of the error that are left out, or 0 if another
-    /// error with this code may follow.
+    /// The number of omitted later faults with the code of the error, or 0 if another error with
+    /// this code may follow.
     pub(crate) left_out: usize,
 }
 
-/// Returns the lines under an error, in this order: the subpattern that shifts its byte, the rest
-/// of its message, its patterns, its help, and the number of faults with its code that are left
-/// out.
+/// Returns the lines under an error in this order: the subpattern that shifts the byte of its
+/// fault, the rest of the message, the patterns that explain the fault, the help, and the number of
+/// omitted faults with the same code.
 pub(crate) fn notes_of(alloc: Global, error: KnownError<'_, '_, '_>) -> Result<Vec<Note>, Memory> {
     let mut notes = Vec::new(alloc);
     add_put_in(alloc, error, &mut notes)?;
@@ -39,7 +39,7 @@ pub(crate) fn notes_of(alloc: Global, error: KnownError<'_, '_, '_>) -> Result<V
 }
 
 /// Appends to `notes` the name of the first subpattern that is substituted before the byte of the
-/// fault, if there is one.
+/// fault. Appends nothing if there is no such subpattern.
 fn add_put_in(
     alloc: Global,
     error: KnownError<'_, '_, '_>,
@@ -53,9 +53,8 @@ fn add_put_in(
     add_note(text.as_str(), notes)
 }
 
-/// Appends to `notes` the lines of the message of an error after its first line. For a member of a
-/// set of ambiguous leaves, appends the note of the set instead, because labels name the other
-/// members.
+/// Appends all lines of an error's message except the first to `notes`. For a member of a set of
+/// ambiguous leaves, appends the note of the set instead, because labels name the other members.
 fn add_message(error: KnownError<'_, '_, '_>, notes: &mut Vec<Note>) -> Result<(), Memory> {
     match error.member {
         Some(member) => add_note(member.meeting.note.as_str(), notes),
@@ -63,7 +62,7 @@ fn add_message(error: KnownError<'_, '_, '_>, notes: &mut Vec<Note>) -> Result<(
     }
 }
 
-/// Appends to `notes` the lines of `message` after its first line.
+/// Appends all lines of `message` except the first to `notes`.
 fn add_other_lines(message: &str, notes: &mut Vec<Note>) -> Result<(), Memory> {
     for line in message.split('\n').skip(1) {
         add_other_line(line, notes)?;
@@ -71,7 +70,7 @@ fn add_other_lines(message: &str, notes: &mut Vec<Note>) -> Result<(), Memory> {
     Ok(())
 }
 
-/// Appends a line of a message to `notes`, without its leading blanks, unless it is empty.
+/// Appends a line of a message without its leading whitespace to `notes`, unless the line is empty.
 fn add_other_line(line: &str, notes: &mut Vec<Note>) -> Result<(), Memory> {
     if line.is_empty() {
         return Ok(());
@@ -79,8 +78,8 @@ fn add_other_line(line: &str, notes: &mut Vec<Note>) -> Result<(), Memory> {
     add_note(line.trim_start(), notes)
 }
 
-/// Appends to `notes` a line for each of `starts`, the patterns that can examine the bytes before
-/// their start, but for at most 50.
+/// Appends a line to `notes` for each of the first 50 patterns in `starts`. These are the patterns
+/// that can examine the bytes before their start.
 fn add_starts(starts: &[Start], notes: &mut Vec<Note>) -> Result<(), Memory> {
     for start in starts.iter().take(MOST) {
         add_note(start.name.as_str(), notes)?;
@@ -96,8 +95,8 @@ fn add_advice(error: KnownError<'_, '_, '_>, notes: &mut Vec<Note>) -> Result<()
     }
 }
 
-/// Appends to `notes` the line that `count` faults with the code of the error are not shown, unless
-/// `count` is 0.
+/// Appends a line to `notes` which reports that `count` faults with the code of the error are not
+/// shown. Appends nothing if `count` is 0.
 fn add_left_out(alloc: Global, count: usize, notes: &mut Vec<Note>) -> Result<(), Memory> {
     if count == 0 {
         return Ok(());

@@ -37,14 +37,15 @@ fn diagnostic_of(alloc: Global, warning: &Warning) -> Result<Diagnostic, Memory>
     })
 }
 
-/// Returns the second span of a warning with its label, or no span if it has none.
+/// Returns the second span of a warning with its label, or no span if the warning has no second
+/// span.
 fn labels_of(alloc: Global, warning: &Warning) -> Result<Vec<Label>, Memory> {
     let mut labels = Vec::new(alloc);
     add_other(warning.also, &mut labels)?;
     Ok(labels)
 }
 
-/// Returns the note and then the help of a warning, as far as it has them.
+/// Returns the note of a warning, followed by its help. Either can be missing.
 fn notes_of(alloc: Global, warning: &Warning) -> Result<Vec<Note>, Memory> {
     let mut notes = Vec::new(alloc);
     if let Some(note) = &warning.note {

@@ -13,9 +13,9 @@ pub struct DiagramLexer<'p, 's> {
     pub graph: &'p Graph<'s>,
 }
 
-/// Returns the state diagram of a lexer as Mermaid text: a line for each drawn state and for each
-/// edge. All bytes of a character outside ASCII are one edge, and the states between them are not
-/// drawn.
+/// Returns the state diagram of a lexer as Mermaid text, with a line for each drawn state and each
+/// edge. The bytes of a character outside ASCII form one edge, and the states between the bytes are
+/// not drawn.
 ///
 /// # Errors
 ///
@@ -55,8 +55,8 @@ flowchart LR
     );
 }
 
-/// Appends the lines of the state at the index `number` of the drawn states and of its edges, and
-/// adds the targets of the edges to `drawn`. Appends nothing if there is no such state.
+/// Appends the lines of a state and of its edges, and adds the targets of the edges to `drawn`. The
+/// state is at the index `number` of the drawn states. Appends nothing if there is no such state.
 fn push_next(
     alloc: Global,
     mermaid: &mut Mermaid,

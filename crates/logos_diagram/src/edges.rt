@@ -11,14 +11,14 @@ use std::alloc::{AllocError, Global};
 /// The states that are drawn, in the order in which edges reach them.
 #[derive(Drop)]
 pub(crate) struct Drawn {
-    /// Whether each state is drawn, by its number.
+    /// Whether each state is drawn, indexed by the number of the state.
     pub(crate) seen: Vec<bool>,
     /// The numbers of the drawn states.
     pub(crate) reached: Vec<usize>,
 }
 
 impl Drawn {
-    /// Adds a state by its number, unless it was added before or does not exist.
+    /// Adds the state with the number `state`, unless it was added before or does not exist.
     ///
     /// # Errors
     ///
@@ -36,7 +36,8 @@ impl Drawn {
     }
 }
 
-/// Appends the line of the state with the number `state`, with its mark if it has one.
+/// Appends the line of the state with the number `state`, including the state's mark if there is
+/// one.
 pub(crate) fn push_state(mermaid: &mut Mermaid, graph: &Graph<'_>, state: usize, data: &StateData) {
     push_id(mermaid, state);
     match (data.state_type.early, data.state_type.accept) {
@@ -50,7 +51,8 @@ pub(crate) fn push_state(mermaid: &mut Mermaid, graph: &Graph<'_>, state: usize,
     }
 }
 
-/// Appends the label of a state with a mark: its number, the name of the leaf, and `end`.
+/// Appends the label of a state with a mark: the state's number, the name of the mark's leaf, and
+/// `end`.
 fn push_marked(
     mermaid: &mut Mermaid,
     graph: &Graph<'_>,
@@ -72,12 +74,12 @@ fn push_id(mermaid: &mut Mermaid, state: usize) {
     mermaid.push_number(state);
 }
 
-/// Appends the lines of the edges of the state with the number `state`, and adds their targets to
-/// `drawn`. Changes nothing if there is no such state.
+/// Appends the lines of the edges of the state with the number `state`, and adds the targets of the
+/// edges to `drawn`. Changes nothing if there is no such state.
 ///
 /// # Errors
 ///
-/// Returns `AllocError` if memory runs out. Then some of them may have been appended.
+/// Returns `AllocError` if memory runs out. Then some lines may have been appended.
 pub(crate) fn push_edges(
     alloc: Global,
     mermaid: &mut Mermaid,
@@ -100,7 +102,7 @@ pub(crate) fn push_edges(
     push_end_edge(mermaid, drawn, state, data.eoi)
 }
 
-/// The states of a graph, and one of these by its number and its data.
+/// The states of a graph, and the number and the data of one of the states.
 #[derive(Clone, Copy)]
 struct EdgesFrom<'a> {
     states: &'a [&'a StateData],
@@ -108,8 +110,8 @@ struct EdgesFrom<'a> {
     data: &'a StateData,
 }
 
-/// Adds the characters of the folded edges of `edges` to the count in `wide` of the state to which
-/// they lead.
+/// Adds to `wide`, for each target state, the number of characters of the folded edges in `edges`
+/// that lead to the target.
 fn count_wide(states: &[&StateData], edges: &[(ByteClass, State)], wide: &mut Vec<usize>) {
     for edge in edges {
         if is_folded(states, edge) {
@@ -118,9 +120,9 @@ fn count_wide(states: &[&StateData], edges: &[(ByteClass, State)], wide: &mut Ve
     }
 }
 
-/// Appends the edges that are not folded, each together with the characters outside ASCII that lead
-/// to its target. Sets the counts of these characters in `wide` to 0, and adds the targets to
-/// `drawn`.
+/// Appends the edges that are not folded, each combined with the characters outside ASCII that lead
+/// to the edge's target. Sets the counts of these characters in `wide` to 0, and adds the targets
+/// of the edges to `drawn`.
 fn push_narrow_edges(
     alloc: Global,
     mermaid: &mut Mermaid,
@@ -137,8 +139,8 @@ fn push_narrow_edges(
     Ok(())
 }
 
-/// Returns the count of the state with the number `state`, and sets the count to 0. Returns 0 if
-/// there is no such state.
+/// Returns the count in `wide` of the state with the number `state`, and sets the count to 0.
+/// Returns 0 if there is no such state.
 fn taken(wide: &mut Vec<usize>, state: usize) -> usize {
     if state >= wide.len() {
         return 0;
@@ -148,8 +150,8 @@ fn taken(wide: &mut Vec<usize>, state: usize) -> usize {
     count
 }
 
-/// Appends an edge that is not folded, with `wide` characters outside ASCII that lead to its
-/// target.
+/// Appends an edge that is not folded, combined with the `wide` characters outside ASCII that lead
+/// to the edge's target.
 fn push_narrow(
     alloc: Global,
     mermaid: &mut Mermaid,
@@ -165,8 +167,8 @@ fn push_narrow(
     push_edge(alloc, mermaid, from.state, edge.1.index(), label)
 }
 
-/// Returns whether the edges of a state cover all bytes and `class` has either all of them, or at
-/// least 128 in several ranges.
+/// Returns whether the edges of a state cover all bytes, and `class` contains either all bytes or
+/// at least 128 bytes in several ranges.
 fn is_rest(data: &StateData, class: &ByteClass) -> bool {
     let mut size: usize = 0;
     for edge in &data.normal {
@@ -175,8 +177,8 @@ fn is_rest(data: &StateData, class: &ByteClass) -> bool {
     (size == 256) & (size_of(class) >= 128) & ((class.ranges.len() > 1) | (size_of(class) == 256))
 }
 
-/// Appends an edge for each state that has a count in `wide`, which only characters outside ASCII
-/// take, and adds the state to `drawn`.
+/// Appends an edge to each state with a count above 0 in `wide`, and adds the state to `drawn`.
+/// Only characters outside ASCII take these edges.
 fn push_wide_edges(
     alloc: Global,
     mermaid: &mut Mermaid,
@@ -193,7 +195,7 @@ fn push_wide_edges(
     Ok(())
 }
 
-/// Appends an edge that only `wide` characters outside ASCII take.
+/// Appends an edge from `state` to `target` that only `wide` characters outside ASCII take.
 fn push_only_wide(
     alloc: Global,
     mermaid: &mut Mermaid,
@@ -209,7 +211,7 @@ fn push_only_wide(
     push_edge(alloc, mermaid, state, target, label)
 }
 
-/// Appends the line of an edge from `state` to `target`.
+/// Appends the line of an edge from `state` to `target` with the label `label`.
 fn push_edge(
     alloc: Global,
     mermaid: &mut Mermaid,
@@ -226,8 +228,8 @@ fn push_edge(
     Ok(())
 }
 
-/// Appends the line of the edge for the end of the input, and adds its target to `drawn`. Changes
-/// nothing if `end` is `None`.
+/// Appends the line of the edge from `state` to `end` at the end of the input, and adds `end` to
+/// `drawn`. Changes nothing if `end` is `None`.
 fn push_end_edge(
     mermaid: &mut Mermaid,
     drawn: &mut Drawn,

@@ -1,12 +1,12 @@
-//! Folds edges over the bytes of characters outside ASCII: a diagram has one edge for all bytes of
-//! a character. Used by `edges` and `names`.
+//! Folds the edges on the bytes of a character outside ASCII into one edge of a diagram. Used by
+//! `edges` and `names`.
 
 use logos_graph::byte_class::ByteClass;
 use logos_graph::graph::{State, StateData};
 use std::ops::RangeInclusive;
 
-/// The least first byte of a character of two bytes. `THREE` and `FOUR` are those of three and four
-/// bytes, and `LAST` is the greatest first byte.
+/// The least first byte of a character of two bytes. `THREE` and `FOUR` are the least first bytes
+/// of characters of three and four bytes, and `LAST` is the greatest first byte of a character.
 const FIRST: u8 = 0xC2;
 
 const THREE: u8 = 0xE0;
@@ -15,9 +15,9 @@ const FOUR: u8 = 0xF0;
 
 const LAST: u8 = 0xF4;
 
-/// Returns whether an edge is folded: whether each of its bytes begins a character outside ASCII,
-/// and the states up to the last byte of the character have no mark and only edges for bytes that
-/// continue the character.
+/// Returns whether an edge is folded. An edge is folded if each of its bytes begins a character
+/// outside ASCII, and if the states between the bytes of the character have no mark and have edges
+/// only on bytes that continue the character.
 pub(crate) fn is_folded(states: &[&StateData], edge: &(ByteClass, State)) -> bool {
     edge.0.ranges.iter().all(|range| folds_from(
         states,
@@ -71,8 +71,8 @@ fn most_second(first: u8) -> u8 {
     }
 }
 
-/// Returns whether the state with the number `state` has no mark and no edge at the end of the
-/// input, and has edges, all on bytes in `least..=most`. Returns `false` if there is no such state.
+/// Returns whether the state with the number `state` has no mark, and has edges, all of them on
+/// bytes in `least..=most`. Returns `false` if there is no such state.
 fn continues(states: &[&StateData], state: usize, least: u8, most: u8) -> bool {
     match states.get(state) {
         Some(data) => is_unmarked(data) & has_edges_within(data, least, most),
@@ -85,7 +85,7 @@ fn is_unmarked(data: &StateData) -> bool {
     data.state_type.accept.is_none() & data.state_type.early.is_none() & data.eoi.is_none()
 }
 
-/// Returns whether a state has at least one edge for bytes, and all these edges are on bytes in
+/// Returns whether a state has at least one edge on bytes, and the bytes of all its edges are in
 /// `least..=most`.
 fn has_edges_within(data: &StateData, least: u8, most: u8) -> bool {
     !data.normal.is_empty()
@@ -95,7 +95,7 @@ fn has_edges_within(data: &StateData, least: u8, most: u8) -> bool {
             .all(|edge| is_within(&edge.0, least, most))
 }
 
-/// Returns whether a set has only bytes in `least..=most`.
+/// Returns whether a set contains only bytes in `least..=most`.
 fn is_within(class: &ByteClass, least: u8, most: u8) -> bool {
     class
         .ranges
@@ -103,8 +103,8 @@ fn is_within(class: &ByteClass, least: u8, most: u8) -> bool {
         .all(|range| (least <= *range.start()) & (*range.end() <= most))
 }
 
-/// Returns whether the state with the number `state` reads only pairs of bytes: one in
-/// `least..=most`, and a continuation byte.
+/// Returns whether the state with the number `state` reads only pairs of bytes: a byte in
+/// `least..=most`, followed by a continuation byte.
 fn continues_twice(states: &[&StateData], state: usize, least: u8, most: u8) -> bool {
     if !continues(states, state, least, most) {
         return false;
@@ -117,8 +117,8 @@ fn continues_twice(states: &[&StateData], state: usize, least: u8, most: u8) -> 
         .all(|edge| continues(states, edge.1.index(), 0x80, 0xBF))
 }
 
-/// Returns whether the state with the number `state` reads only triples of bytes: one in
-/// `least..=most`, and two continuation bytes.
+/// Returns whether the state with the number `state` reads only triples of bytes: a byte in
+/// `least..=most`, followed by two continuation bytes.
 fn continues_thrice(states: &[&StateData], state: usize, least: u8, most: u8) -> bool {
     if !continues(states, state, least, most) {
         return false;
@@ -131,8 +131,8 @@ fn continues_thrice(states: &[&StateData], state: usize, least: u8, most: u8) ->
         .all(|edge| continues_twice(states, edge.1.index(), 0x80, 0xBF))
 }
 
-/// Adds the numbers of characters of a folded edge to the counts of the states to which these
-/// characters lead.
+/// Adds to `counts`, for each target state, the number of characters of a folded edge that lead to
+/// the target.
 pub(crate) fn add_folded(
     states: &[&StateData],
     edge: &(ByteClass, State),
@@ -143,8 +143,9 @@ pub(crate) fn add_folded(
     }
 }
 
-/// Adds the characters whose first byte is in `range`, and whose other bytes the state with the
-/// number `state` reads, to the counts of the states to which they lead.
+/// Adds to `counts`, for each target state, the number of characters that lead to the target. The
+/// characters begin with a byte in `range`, and the state with the number `state` reads their other
+/// bytes.
 fn add_range(
     states: &[&StateData],
     state: usize,
@@ -156,8 +157,9 @@ fn add_range(
     }
 }
 
-/// Adds the characters with the first byte `first`, whose other bytes the state with the number
-/// `state` reads, to the counts of the states to which they lead.
+/// Adds to `counts`, for each target state, the number of characters that lead to the target. The
+/// characters begin with the byte `first`, and the state with the number `state` reads their other
+/// bytes.
 fn add_from(states: &[&StateData], state: usize, first: u8, counts: &mut Vec<usize>) {
     if first < THREE {
         add_last(states, state, 1, counts);
@@ -179,8 +181,8 @@ pub(crate) fn size_of(class: &ByteClass) -> usize {
     size
 }
 
-/// Adds the bytes that the state with the number `state` reads, `times` times, to the counts of the
-/// states to which they lead.
+/// Adds the number of bytes on each edge of the state with the number `state`, multiplied by
+/// `times`, to the count of the edge's target.
 fn add_last(states: &[&StateData], state: usize, times: usize, counts: &mut Vec<usize>) {
     if let Some(data) = states.get(state) {
         for edge in &data.normal {
@@ -193,15 +195,16 @@ fn add_last(states: &[&StateData], state: usize, times: usize, counts: &mut Vec<
     }
 }
 
-/// Adds `count` to the count of a state, if there is such a state.
+/// Adds `count` to the count of the state with the number `state`. Does nothing if there is no such
+/// state.
 fn add_count(counts: &mut Vec<usize>, state: usize, count: usize) {
     if state < counts.len() {
         counts[state] = counts[state].saturating_add(count);
     }
 }
 
-/// Adds the pairs of bytes that are read from the state with the number `state`, `times` times, to
-/// the counts of the states to which they lead.
+/// Adds to `counts`, for each target state, the number of pairs of bytes that lead from the state
+/// with the number `state` to the target, multiplied by `times`.
 fn add_twice(states: &[&StateData], state: usize, times: usize, counts: &mut Vec<usize>) {
     if let Some(data) = states.get(state) {
         for edge in &data.normal {
@@ -211,8 +214,8 @@ fn add_twice(states: &[&StateData], state: usize, times: usize, counts: &mut Vec
     }
 }
 
-/// Adds the triples of bytes that are read from the state with the number `state` to the counts of
-/// the states to which they lead.
+/// Adds to `counts`, for each target state, the number of triples of bytes that lead from the state
+/// with the number `state` to the target.
 fn add_thrice(states: &[&StateData], state: usize, counts: &mut Vec<usize>) {
     if let Some(data) = states.get(state) {
         for edge in &data.normal {

@@ -8,8 +8,8 @@ use logos_page::Page;
 use std::alloc::{AllocError, Global};
 use std::marker::Model;
 
-/// Mermaid text to which code and labels are appended. A value records whether memory ran out, so
-/// only `finish` can fail.
+/// Mermaid text to which code and labels are appended. The value records whether memory ran out, so
+/// that only `finish` can fail.
 #[derive(Drop)]
 pub struct Mermaid {
     page: Page,
@@ -24,7 +24,7 @@ impl Model for Mermaid {
 }
 
 impl Mermaid {
-    /// Returns Mermaid text without content.
+    /// Returns an empty Mermaid text.
     pub fn new(alloc: Global) -> Mermaid
         ensures { result ≡ record { text = []; is_colored = false; is_whole = true } }
     {
@@ -33,7 +33,7 @@ impl Mermaid {
         }
     }
 
-    /// Appends Mermaid code. The code is a constant of the program, so that no text of a file
+    /// Appends Mermaid code. The code is a constant of the program, so that text from a file never
     /// becomes code.
     pub fn push_code(&mut self, code: &'static str)
         ensures { Gains code.now self.old self.new }
@@ -69,7 +69,7 @@ impl Mermaid {
         self.page.push(";");
     }
 
-    /// Appends a text as part of a label, no character of which ends the label.
+    /// Appends a text as part of a label. No character of the text ends the label.
     pub fn push_label(&mut self, text: &str)
         ensures { Gains (label_text text.now) self.old self.new }
     {

@@ -1,5 +1,5 @@
-//! The state diagram of a lexer as Mermaid text, with short names of sets of bytes. The bytes of a
-//! character outside ASCII are one edge. Used by `logos_show` for `--mermaid`.
+//! Draws the state diagram of a lexer as Mermaid text, with short names for sets of bytes. The
+//! bytes of a character outside ASCII form one edge. Used by `logos_show` for `--mermaid`.
 
 #![tactic(auto)]
 

@@ -1,4 +1,5 @@
-//! Writes the labels of edges: sets of bytes and of characters by short names. Used by `edges`.
+//! Writes the labels of edges, with short names for sets of bytes and of characters. Used by
+//! `edges`.
 
 use crate::folds::size_of;
 use crate::label::Mermaid;
@@ -19,9 +20,9 @@ const WIDE: usize = 1_111_936;
 pub(crate) struct EdgeLabel<'a> {
     /// The set of bytes, or `None` if only characters outside ASCII take the edge.
     pub(crate) class: Option<&'a ByteClass>,
-    /// Whether the label names the bytes as all that no other edge of the state has.
+    /// Whether the label names the bytes as all bytes that are on no other edge of the state.
     pub(crate) is_rest: bool,
-    /// The number of characters outside ASCII that take the edge as a whole.
+    /// The number of characters outside ASCII that take the edge with all of their bytes.
     pub(crate) wide: usize,
 }
 
@@ -45,7 +46,7 @@ pub(crate) fn push_edge_label(
     Ok(())
 }
 
-/// Appends the bytes of an edge, which are `class`, and its characters outside ASCII if it has any.
+/// Appends the bytes `class` of an edge, and the edge's characters outside ASCII if there are any.
 fn push_bytes(page: &mut Page, class: &ByteClass, label: EdgeLabel<'_>) {
     if (label.wide == WIDE) & is_ascii(class) {
         return push_all_but(page, class);
@@ -60,7 +61,8 @@ fn push_bytes(page: &mut Page, class: &ByteClass, label: EdgeLabel<'_>) {
     }
 }
 
-/// Returns the name of the bytes that no other edge of a state has, given their set.
+/// Returns the name of the bytes that are on no other edge of a state. `class` is the set of these
+/// bytes.
 fn rest_name(class: &ByteClass) -> &'static str {
     if size_of(class) == 256 {
         "any byte"
@@ -69,7 +71,7 @@ fn rest_name(class: &ByteClass) -> &'static str {
     }
 }
 
-/// Appends the name of all characters except the ASCII characters that the set `class` lacks.
+/// Appends the name of all characters except the ASCII characters that are not in `class`.
 fn push_all_but(page: &mut Page, class: &ByteClass) {
     if size_of(class) == 128 {
         page.push("any character");
@@ -78,12 +80,12 @@ fn push_all_but(page: &mut Page, class: &ByteClass) {
     }
 }
 
-/// Returns whether a set has only ASCII bytes.
+/// Returns whether a set contains only ASCII bytes.
 fn is_ascii(class: &ByteClass) -> bool {
     class.ranges.iter().all(|range| *range.end() < 128)
 }
 
-/// Appends the words for `count` characters outside ASCII.
+/// Appends the label text for `count` characters outside ASCII.
 fn push_wide(page: &mut Page, count: usize) {
     if count == WIDE {
         return page.push("any non-ASCII character");
@@ -96,7 +98,7 @@ fn push_wide(page: &mut Page, count: usize) {
     });
 }
 
-/// Appends a set of bytes by its short name, or by its ranges if it has none.
+/// Appends a set of bytes by its short name, or by its ranges if it has no short name.
 fn push_named(page: &mut Page, class: &ByteClass) {
     match name_of(&class.ranges) {
         Some(name) => page.push(name),
@@ -104,7 +106,8 @@ fn push_named(page: &mut Page, class: &ByteClass) {
     }
 }
 
-/// Returns the short name of a set with these ranges of bytes, or `None` if it has none.
+/// Returns the short name of the set of bytes with the ranges `ranges`, or `None` if the set has no
+/// short name.
 fn name_of(ranges: &[RangeInclusive<u8>]) -> Option<&'static str> {
     match ranges {
         [digits] if is_range(digits, b'0', b'9') => Some("\\d"),

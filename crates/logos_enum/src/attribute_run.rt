@@ -1,5 +1,5 @@
-//! Splits attributes off the front of a run one by one. The code that reads the attributes of enums
-//! and variants calls it.
+//! Splits attributes off the front of a run one by one. Called by the code that reads the
+//! attributes of enums and variants.
 
 ghost use Rattle.std.specs.Prelude.{◌≡◌, ◌<◌, Some, None, MatchOption};
 ghost use Rattle.logos_enum.specs.Views.{count_of, tokens_of, attribute_in, split_value};

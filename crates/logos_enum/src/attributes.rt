@@ -1,5 +1,5 @@
-//! Reads attributes and visibilities. The readers of enums, variants, fields and parameters call
-//! it.
+//! Reads attributes and visibilities. Called by the readers of enums, variants, fields and
+//! parameters.
 
 ghost use Rattle.std.specs.Prelude.{◌≡◌, ◌<◌, ◌≤◌, List, Ok, Err, Some, None, MatchOption, MatchResult, IfSome, IfOk, IfErr};
 ghost use Rattle.logos_enum.specs.Views.{none, also, punctuation, count_of, IsRestOf, tokens_of, tree_of, Grammar, end_mismatch, value_mismatch, path_mismatch, colon_mismatch, segment_mismatch, attribute_mismatch, IsPathStep, after_attributes, after_hash, Attributes, after_parenthesis, after_visibility, after_keyword};
@@ -33,7 +33,8 @@ fn read_value(tokens: Tokens<'_, '_>) -> Result<(), Mismatch>
     }
 }
 
-/// Returns the tokens after the identifier that must come first, or a mismatch if it does not.
+/// Returns the tokens after the identifier that must come first. Returns a mismatch if no
+/// identifier comes first.
 fn read_segment<'t, 's>(tokens: Tokens<'t, 's>) -> Result<Tokens<'t, 's>, Mismatch>
     ensures { MatchResult result
         (λ rest. (segment_mismatch (tokens_of tokens.entry) ≡ path_mismatch (tokens_of rest))
@@ -46,8 +47,8 @@ fn read_segment<'t, 's>(tokens: Tokens<'t, 's>) -> Result<Tokens<'t, 's>, Mismat
     }
 }
 
-/// Returns the tokens after the second `:` of `::` and an identifier. `first` is the first `:`, at
-/// which the mismatch is if no second `:` follows.
+/// Returns the tokens after the second `:` of `::` and an identifier. `first` is the first `:`.
+/// Returns a mismatch at `first` if `tokens` do not begin with the second `:`.
 fn read_colon<'t, 's>(first: Punct, tokens: Tokens<'t, 's>) -> Result<Tokens<'t, 's>, Mismatch>
     ensures { MatchResult result
         (λ rest. (colon_mismatch first.span (tokens_of tokens.entry) ≡ path_mismatch (tokens_of rest))
@@ -60,8 +61,9 @@ fn read_colon<'t, 's>(first: Punct, tokens: Tokens<'t, 's>) -> Result<Tokens<'t,
     }
 }
 
-/// Takes one step along the tokens after a path, which are `punct` and `tokens`. Returns the tokens
-/// after `::` and an identifier, or `None` if the path ends and the attribute is well-formed.
+/// Takes one step along the tokens after a path. The first of these tokens is `punct`, and `tokens`
+/// are the others. Returns the tokens after `::` and an identifier, or `None` if the path ends and
+/// the attribute is well-formed.
 fn path_step_at<'t, 's>(
     punct: Punct,
     tokens: Tokens<'t, 's>,
@@ -123,8 +125,9 @@ fn check_attribute(tokens: Tokens<'_, '_>) -> Result<(), Mismatch>
     }
 }
 
-/// Returns the tokens after the brackets of an attribute. `tokens` are the tokens after its `#`.
-/// Returns `Grammar` if there are no brackets, or their tokens are malformed.
+/// Returns the tokens after the brackets of an attribute. `tokens` are the tokens after the `#` of
+/// the attribute. Returns `Grammar` if there are no brackets, or the tokens inside them are
+/// malformed.
 fn skip_brackets<'t, 's>(tokens: Tokens<'t, 's>) -> Result<Tokens<'t, 's>, ReadError>
     ensures value { MatchResult result
         (λ rest. (after_hash (tokens_of tokens.entry) ≡ after_attributes (tokens_of rest))
@@ -164,7 +167,7 @@ fn skip_attribute<'t, 's>(tokens: Tokens<'t, 's>) -> Result<Option<Tokens<'t, 's
     }
 }
 
-/// Returns the attributes at the front, and the tokens after them.
+/// Returns the attributes at the front of `tokens`, and the tokens after the attributes.
 pub(crate) fn read_attributes<'t, 's>(
     tokens: Tokens<'t, 's>,
 ) -> Result<(Tokens<'t, 's>, Tokens<'t, 's>), ReadError>

@@ -6,15 +6,15 @@ ghost use Rattle.logos_enum.specs.Views.{Memory};
 use logos_token::token::Span;
 use std::alloc::{AllocError, AllocFailed};
 
-/// The reason why a run of tokens is not an enum: its first fault from the left.
+/// The reason why a run of tokens is not an enum: the first fault of the run from the left.
 #[derive(Clone, Copy, Debug, PartialEq, Eq)]
 pub enum ReadError {
     /// The run does not begin with well-formed attributes, an optional visibility, and `enum`.
     /// `span` is the span of the whole run.
     NotAnEnum { span: Span },
     /// The run begins as an enum does, but a token after `enum` does not fit. `span` is the span of
-    /// the first such token, or of the whole group if it is a group. It is `0..0` at the end of the
-    /// tokens, also inside a group.
+    /// the first such token. If this token is a group, `span` is the span of the whole group. If
+    /// the tokens, or the tokens of a group, end too early, `span` is `0..0`.
     Grammar { span: Span },
     /// The type of a field is not supported. `span` is the span of the innermost unsupported type.
     TypeUnsupported { span: Span },

@@ -1,5 +1,5 @@
-//! Finds the extents of bounds, defaults and types: their tokens, up to the token that ends them.
-//! The readers of parameters and fields call it.
+//! Finds the extents of bounds, defaults and types. An extent consists of the tokens up to the
+//! token that ends it. Called by the readers of parameters and fields.
 
 ghost use Rattle.std.specs.Prelude.{◌≡◌, ◌+◌, ◌<◌, ◌≤◌, MatchOption};
 ghost use Rattle.logos_enum.specs.Views.{TokenList, also, punctuation, count_of, append, IsRestOf, tokens_of, ends, begins_arrow, depth_after, is_end, after_from, after_extent, after_generics, IsStep};
@@ -7,30 +7,32 @@ ghost use Rattle.logos_enum.specs.Views.{TokenList, also, punctuation, count_of,
 use crate::tokens::{after_mark, split};
 use logos_token::token::{Punct, Spacing, TokenTree, Tokens};
 
-/// The greatest number of angle brackets that can be open.
+/// The maximum number of open angle brackets.
 const MOST: usize = usize::MAX;
 
 /// A construct that has an extent.
 #[derive(Clone, Copy)]
 pub(crate) enum End {
-    /// Bounds, or the type of a constant, which reach up to a comma, `=` or `>`.
+    /// The bounds of a parameter, or the type of a constant. The extent ends before a comma, `=` or
+    /// `>`.
     OfBounds,
-    /// A default, or a whole parameter, which reaches up to a comma or `>`.
+    /// A default, or a whole parameter. The extent ends before a comma or `>`.
     OfDefault,
-    /// The type of a field, which reaches up to a comma.
+    /// The type of a field. The extent ends before a comma.
     OfField,
-    /// All generic parameters, which reach up to `>`.
+    /// All generic parameters. The extent ends before `>`.
     OfParameters,
 }
 
-/// The number of open angle brackets, and whether the preceding token is a `-` that can begin `->`.
+/// The angle brackets before a token: `depth` is the number of open ones, and `arrow` is `true` if
+/// the preceding token is a `-` that can begin `->`.
 #[derive(Clone, Copy)]
 struct Angles {
     depth: usize,
     arrow: bool,
 }
 
-/// Returns whether the punctuation `character`, outside angle brackets, ends the extent of `end`.
+/// Returns whether the punctuation `character` ends the extent of `end` outside angle brackets.
 pub(crate) fn ends(end: End, character: char) -> bool
     ensures { result ≡ ends end character }
 {
@@ -52,8 +54,8 @@ fn begins_arrow(punct: Punct) -> bool
     }
 }
 
-/// Returns whether the punctuation `character` after the angle brackets `angles` ends the extent of
-/// `end`.
+/// Returns whether the punctuation `character` ends the extent of `end`. `angles` describes the
+/// angle brackets before `character`.
 fn is_end(end: End, angles: Angles, character: char) -> bool
     ensures { result ≡ is_end end angles.arrow angles.depth character }
 {
@@ -75,8 +77,8 @@ fn depth_after(angles: Angles, character: char) -> usize
     angles.depth
 }
 
-/// Returns the tokens after the first token of `tokens`, with the angle brackets that are open
-/// there. Returns `None` if the extent ends before the first token, or there is no token.
+/// Returns the tokens after the first token of `tokens`, and the angle brackets that are open after
+/// the first token. Returns `None` if the extent ends before the first token, or `tokens` is empty.
 fn skip_token<'t, 's>(
     end: End,
     angles: Angles,
@@ -107,7 +109,7 @@ fn skip_token<'t, 's>(
     }
 }
 
-/// Returns the tokens after the extent of `end` at the front of `tokens`.
+/// Returns the tokens after the extent of `end` that begins at the front of `tokens`.
 pub(crate) fn skip_extent<'t, 's>(end: End, tokens: Tokens<'t, 's>) -> Tokens<'t, 's>
     ensures value { tokens_of result ≡ after_extent end (tokens_of tokens.entry) }
     ensures shorter { count_of (tokens_of result) ≤ count_of (tokens_of tokens.entry) }
@@ -130,8 +132,8 @@ pub(crate) fn skip_extent<'t, 's>(end: End, tokens: Tokens<'t, 's>) -> Tokens<'t
     rest
 }
 
-/// Returns the tokens from the `>` that closes the generic parameters, if `<` comes first, and all
-/// tokens otherwise. Returns no tokens if no `>` closes them.
+/// Returns the tokens from the closing `>` of the generic parameters on, or no tokens if there is
+/// no closing `>`. Returns all tokens if `<` does not come first.
 pub fn skip_generics<'t, 's>(tokens: Tokens<'t, 's>) -> Tokens<'t, 's>
     ensures { tokens_of result ≡ after_generics (tokens_of tokens.entry) }
 {
@@ -141,7 +143,7 @@ pub fn skip_generics<'t, 's>(tokens: Tokens<'t, 's>) -> Tokens<'t, 's>
     }
 }
 
-/// Returns the tokens of the extent of `end` at the front of `tokens`.
+/// Returns the tokens of the extent of `end` that begins at the front of `tokens`.
 pub(crate) fn extent<'t, 's>(end: End, tokens: Tokens<'t, 's>) -> Tokens<'t, 's>
     ensures { tokens_of tokens.entry ≡
         append (tokens_of result) (after_extent end (tokens_of tokens.entry)) }

@@ -1,4 +1,4 @@
-//! Reads the fields of variants. The reader of variants calls it.
+//! Reads the fields of variants. Called by the reader of variants.
 
 ghost use Rattle.std.specs.Prelude.{◌≡◌, ◌<◌, ◌≤◌, List, map, Ok, Err, None, MatchOption, IfSome, MatchResult, IfOk, IfErr};
 ghost use Rattle.logos_enum.specs.Views.{none, count_of, tokens_of, error_is, FieldType, colon_in, label, field, fields, Holding, typed_value, field_value, fields_value, parenthesis_in, Occurs};
@@ -23,26 +23,26 @@ pub struct Field<'t, 's> {
     pub run: Tokens<'t, 's>,
 }
 
-/// The fields of a variant. The span is the span of the parentheses or of the braces.
+/// The fields of a variant. Each span is the span of the parentheses or of the braces.
 #[derive(Drop)]
 pub enum Fields<'t, 's> {
     /// No fields.
     Unit,
     /// Fields in parentheses.
     Tuple(Span, Vec<Field<'t, 's>>),
-    /// Fields with names, in braces.
+    /// Named fields, in braces.
     Named(Span, Vec<Field<'t, 's>>),
 }
 
-/// A type and its tokens.
+/// The type of a field, and the tokens of the type.
 #[derive(Drop)]
 pub(crate) struct Typed<'t, 's> {
     field_type: TypeExpr<'s>,
     run: Tokens<'t, 's>,
 }
 
-/// Returns the error for the fault of a field's type. `run` is the tokens of the type, whose span
-/// is reported if too many types are nested.
+/// Converts the fault of a field's type to an error. `run` has the tokens of the type. The error
+/// has the span of `run` if too many types are nested.
 fn error_of(run: Tokens<'_, '_>, fault: TypeFault) -> ReadError
     ensures { error_is (tokens_of run.entry) fault result }
 {
@@ -54,7 +54,7 @@ fn error_of(run: Tokens<'_, '_>, fault: TypeFault) -> ReadError
     }
 }
 
-/// Returns the type of a field with the tokens of the type, and the tokens after the type.
+/// Reads the type of a field. Returns the type with its tokens, and the tokens after the type.
 fn read_typed<'t, 's>(
     alloc: Global,
     tokens: Tokens<'t, 's>,
@@ -72,7 +72,7 @@ fn read_typed<'t, 's>(
     }
 }
 
-/// Returns the tokens after the `:` that must come first. Returns `Grammar` if it does not.
+/// Returns the tokens after the `:` that must come first. Returns `Grammar` if no `:` comes first.
 fn skip_colon<'t, 's>(tokens: Tokens<'t, 's>) -> Result<Tokens<'t, 's>, ReadError>
     ensures { MatchResult result
         (λ rest. (colon_in (tokens_of tokens.entry) ≡ Ok (tt, tokens_of rest))
@@ -85,7 +85,8 @@ fn skip_colon<'t, 's>(tokens: Tokens<'t, 's>) -> Result<Tokens<'t, 's>, ReadErro
     }
 }
 
-/// Returns the tokens after the name of a field and `:` if `named`, and all tokens otherwise.
+/// Returns the tokens after the name of a field and `:` if `named` is `true`, and all tokens
+/// otherwise. Returns `Grammar` if the name or `:` is missing.
 fn skip_label<'t, 's>(named: bool, tokens: Tokens<'t, 's>) -> Result<Tokens<'t, 's>, ReadError>
     ensures ok { IfOk result
         (λ rest. label named (tokens_of tokens.entry) (Ok (tt, tokens_of rest))) }
@@ -101,7 +102,8 @@ fn skip_label<'t, 's>(named: bool, tokens: Tokens<'t, 's>) -> Result<Tokens<'t, 
     Ok(rest)
 }
 
-/// Returns the field at the front, and the tokens after it. `named` is whether it must have a name.
+/// Returns the field at the front of `tokens`, and the tokens after the field. `named` states
+/// whether the field must have a name.
 fn read_field<'t, 's>(
     alloc: Global,
     named: bool,
@@ -125,8 +127,8 @@ fn read_field<'t, 's>(
     Ok((field, rest))
 }
 
-/// Returns the fields in `tokens`, the tokens of a group. `named` is whether the fields must have
-/// names. Returns the first fault if a token belongs to no field.
+/// Returns the fields in `tokens`, the tokens inside a group. `named` states whether the fields
+/// must have names. Returns the first fault if a token belongs to no field.
 fn read_fields<'t, 's>(
     alloc: Global,
     named: bool,
@@ -169,7 +171,7 @@ fn read_tuple<'t, 's>(
 }
 
 /// Returns the fields in braces, and the tokens after the braces. Returns `Unit` and all tokens if
-/// no brace comes first.
+/// no brace comes first. No parenthesis may come first.
 fn read_named<'t, 's>(
     alloc: Global,
     tokens: Tokens<'t, 's>,
@@ -188,7 +190,7 @@ fn read_named<'t, 's>(
     Ok((Fields::Named(opened.span, list), opened.rest))
 }
 
-/// Returns the fields after the name of a variant, and the tokens after the fields.
+/// Returns the fields that follow the name of a variant, and the tokens after the fields.
 pub(crate) fn read_holding<'t, 's>(
     alloc: Global,
     tokens: Tokens<'t, 's>,

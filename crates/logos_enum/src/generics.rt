@@ -1,4 +1,4 @@
-//! Reads generic parameters. The reader of enums calls it.
+//! Reads generic parameters. Called by the reader of enums.
 
 ghost use Rattle.std.specs.Prelude.{◌≡◌, ◌<◌, ◌≤◌, List, map, Ok, Err, MatchResult, IfOk, IfErr};
 ghost use Rattle.logos_enum.specs.Views.{also, identifier, count_of, tokens_of, begins_with, greater, head_of, head_in, some_in, bounds_in, constant_in, default_in, tail, shape, OneParameter, closing_in, parameters, Generics, Listed, Occurs, ident_slice, head_value, parameter_value};
@@ -25,7 +25,8 @@ pub struct Parameter<'t, 's> {
     pub kind: ParameterKind,
     /// The name, without the `'` of a lifetime.
     pub name: Ident<'s>,
-    /// All tokens of the parameter: attributes, the name, and the bounds, type or default after it.
+    /// All tokens of the parameter: the attributes, the name, and the bounds, the type or the
+    /// default after the name.
     pub run: Tokens<'t, 's>,
 }
 
@@ -36,8 +37,8 @@ pub(crate) struct Head<'s> {
     name: Ident<'s>,
 }
 
-/// Returns the name at the front as the head of a parameter of the kind `kind`, and the tokens
-/// after it. Returns `Grammar` if no name comes first.
+/// Reads the name at the front of `tokens` as the name of a parameter of the kind `kind`. Returns
+/// the kind and the name, and the tokens after the name. Returns `Grammar` if no name comes first.
 fn read_head_of<'t, 's>(
     kind: ParameterKind,
     tokens: Tokens<'t, 's>,
@@ -53,7 +54,8 @@ fn read_head_of<'t, 's>(
     }
 }
 
-/// Returns the kind and the name of the parameter at the front, and the tokens after the name.
+/// Returns the kind and the name of the parameter at the front of `tokens`, and the tokens after
+/// the name.
 fn read_head<'t, 's>(tokens: Tokens<'t, 's>) -> Result<(Head<'s>, Tokens<'t, 's>), ReadError>
     ensures { MatchResult result
         (λ read. (head_in (tokens_of tokens.entry) ≡ Ok (head_value read.0, tokens_of read.1))
@@ -72,7 +74,7 @@ fn read_head<'t, 's>(tokens: Tokens<'t, 's>) -> Result<(Head<'s>, Tokens<'t, 's>
     }
 }
 
-/// Returns the tokens after the extent of `end`. Returns `Grammar` if the extent has no token.
+/// Returns the tokens after the extent of `end`. Returns `Grammar` if the extent is empty.
 fn skip_some<'t, 's>(end: End, tokens: Tokens<'t, 's>) -> Result<Tokens<'t, 's>, ReadError>
     ensures { MatchResult result
         (λ rest. (some_in end (tokens_of tokens.entry) ≡ Ok (tt, tokens_of rest))
@@ -100,7 +102,7 @@ fn skip_bounds<'t, 's>(tokens: Tokens<'t, 's>) -> Tokens<'t, 's>
 }
 
 /// Returns the tokens after `:` and the type of a constant. Returns `Grammar` if `:` does not come
-/// first, or no type follows it.
+/// first, or no type follows `:`.
 fn skip_constant<'t, 's>(tokens: Tokens<'t, 's>) -> Result<Tokens<'t, 's>, ReadError>
     ensures { MatchResult result
         (λ rest. (constant_in (tokens_of tokens.entry) ≡ Ok (tt, tokens_of rest))
@@ -131,8 +133,8 @@ fn skip_default<'t, 's>(tokens: Tokens<'t, 's>) -> Result<Tokens<'t, 's>, ReadEr
     }
 }
 
-/// Returns the tokens after the bounds, type and default that can follow the name of a parameter of
-/// the kind `kind`.
+/// Returns the tokens after the bounds, the type and the default that can follow the name of a
+/// parameter of the kind `kind`.
 fn skip_tail<'t, 's>(
     kind: ParameterKind,
     tokens: Tokens<'t, 's>,
@@ -170,7 +172,7 @@ fn read_shape<'t, 's>(tokens: Tokens<'t, 's>) -> Result<(Head<'s>, Tokens<'t, 's
     Ok((head, rest))
 }
 
-/// Returns the parameter at the front, and the tokens after it.
+/// Returns the parameter at the front of `tokens`, and the tokens after the parameter.
 fn read_parameter<'t, 's>(
     tokens: Tokens<'t, 's>,
 ) -> Result<(Parameter<'t, 's>, Tokens<'t, 's>), ReadError>
@@ -191,7 +193,7 @@ fn read_parameter<'t, 's>(
     Ok((parameter, rest))
 }
 
-/// Returns the parameters up to the closing `>`, and the tokens from that `>` on.
+/// Returns the parameters before the closing `>`, and the tokens from this `>` on.
 fn read_parameters<'t, 's>(
     alloc: Global,
     tokens: Tokens<'t, 's>,
@@ -213,7 +215,7 @@ fn read_parameters<'t, 's>(
     Ok((list, rest))
 }
 
-/// Returns the tokens after the `>` that must come first. Returns `Grammar` if it does not.
+/// Returns the tokens after the `>` that must come first. Returns `Grammar` if no `>` comes first.
 fn skip_closing<'t, 's>(tokens: Tokens<'t, 's>) -> Result<Tokens<'t, 's>, ReadError>
     ensures { MatchResult result
         (λ rest. closing_in (tokens_of tokens.entry) ≡ Ok (tt, tokens_of rest))

@@ -1,4 +1,4 @@
-//! Opens the group at the front of a run. The readers of attributes, fields and bodies call it.
+//! Opens the group at the front of a run. Called by the readers of attributes, fields and bodies.
 
 ghost use Rattle.std.specs.Prelude.{◌≡◌, ◌<◌, Some, None, MatchOption};
 ghost use Rattle.logos_enum.specs.Views.{count_of, tokens_of, parenthesis_in, bracket_in, brace_in, opened_value};
@@ -6,7 +6,7 @@ ghost use Rattle.logos_enum.specs.Views.{count_of, tokens_of, parenthesis_in, br
 use crate::tokens::split;
 use logos_token::token::{Delimiter, Span, TokenTree, Tokens};
 
-/// A group: its span, the tokens inside it, and the tokens after it.
+/// A group at the front of a run: its span, the tokens inside it, and the tokens after it.
 #[derive(Clone, Copy)]
 pub(crate) struct Opened<'t, 's> {
     pub span: Span,
@@ -14,7 +14,8 @@ pub(crate) struct Opened<'t, 's> {
     pub rest: Tokens<'t, 's>,
 }
 
-/// Returns the group in parentheses at the front of `tokens`, or `None` if there is none.
+/// Returns the group in parentheses at the front of `tokens`, or `None` if `tokens` does not begin
+/// with such a group.
 pub(crate) fn open_parenthesis<'t, 's>(tokens: Tokens<'t, 's>) -> Option<Opened<'t, 's>>
     ensures { MatchOption result (parenthesis_in (tokens_of tokens.entry) ≡ None)
         (λ opened. (parenthesis_in (tokens_of tokens.entry) ≡ Some (opened_value opened))
@@ -32,7 +33,8 @@ pub(crate) fn open_parenthesis<'t, 's>(tokens: Tokens<'t, 's>) -> Option<Opened<
     }
 }
 
-/// Returns the group in brackets at the front of `tokens`, or `None` if there is none.
+/// Returns the group in brackets at the front of `tokens`, or `None` if `tokens` does not begin
+/// with such a group.
 pub(crate) fn open_bracket<'t, 's>(tokens: Tokens<'t, 's>) -> Option<Opened<'t, 's>>
     ensures { MatchOption result (bracket_in (tokens_of tokens.entry) ≡ None)
         (λ opened. (bracket_in (tokens_of tokens.entry) ≡ Some (opened_value opened))
@@ -50,7 +52,8 @@ pub(crate) fn open_bracket<'t, 's>(tokens: Tokens<'t, 's>) -> Option<Opened<'t, 
     }
 }
 
-/// Returns the group in braces at the front of `tokens`, or `None` if there is none.
+/// Returns the group in braces at the front of `tokens`, or `None` if `tokens` does not begin with
+/// such a group.
 pub(crate) fn open_brace<'t, 's>(tokens: Tokens<'t, 's>) -> Option<Opened<'t, 's>>
     ensures { MatchOption result (brace_in (tokens_of tokens.entry) ≡ None)
         (λ opened. (brace_in (tokens_of tokens.entry) ≡ Some (opened_value opened))

@@ -1,4 +1,4 @@
-//! Reads a whole enum. `logos_parser`, `logos_strip` and the finder of enums in files call it.
+//! Reads a whole enum. Called by `logos_parser`, `logos_strip` and the finder of enums in files.
 
 ghost use Rattle.std.specs.Prelude.{◌≡◌, ◌<◌, ◌≤◌, List, map, Ok, Err, Result, Some, None, MatchOption, MatchResult, IfOk, IfErr};
 ghost use Rattle.logos_enum.specs.Views.{TokenList, none, count_of, tokens_of, ReadError as ReadErrorValue, Memory, announced_in, IsFront, from_brace, where_in, Body, end_in, NoFront, item, Reads, EnumValue, variant_value, enum_value, Occurs};
@@ -12,10 +12,10 @@ use crate::variants::{Variant, read_variants};
 use logos_token::token::{Delimiter, Ident, TokenTree, Tokens};
 use std::alloc::Global;
 
-/// An enum. The runs are views of the tokens from which it was read.
+/// An enum. Its runs are views of the tokens from which the enum was read.
 #[derive(Drop)]
 pub struct ItemEnum<'t, 's> {
-    /// The attributes of the enum. Each is `#` and brackets, or a documentation comment.
+    /// The attributes of the enum. Each attribute is `#` and brackets, or a documentation comment.
     pub attributes: Tokens<'t, 's>,
     pub name: Ident<'s>,
     /// The generic parameters, in source order.
@@ -24,8 +24,8 @@ pub struct ItemEnum<'t, 's> {
     pub variants: Vec<Variant<'t, 's>>,
 }
 
-/// Returns the tokens after the first one. Returns `None` if the first one is a group in braces, or
-/// there is none.
+/// Returns the tokens after the first token. Returns `None` if the first token is a group in
+/// braces, or there are no tokens.
 fn skip_other<'t, 's>(tokens: Tokens<'t, 's>) -> Option<Tokens<'t, 's>>
     ensures { MatchOption result (from_brace (tokens_of tokens.entry) ≡ tokens_of tokens.entry)
         (λ rest. (from_brace (tokens_of tokens.entry) ≡ from_brace (tokens_of rest))
@@ -37,7 +37,7 @@ fn skip_other<'t, 's>(tokens: Tokens<'t, 's>) -> Option<Tokens<'t, 's>>
     }
 }
 
-/// Returns the tokens from the first group in braces on, or no tokens if there is none.
+/// Returns the tokens from the first group in braces on, or no tokens if there is no such group.
 fn skip_to_brace<'t, 's>(tokens: Tokens<'t, 's>) -> Tokens<'t, 's>
     ensures { tokens_of result ≡ from_brace (tokens_of tokens.entry) }
 {
@@ -88,8 +88,8 @@ fn read_end(tokens: Tokens<'_, '_>) -> Result<(), ReadError>
     }
 }
 
-/// Returns `attributes` and the tokens after `enum`. Returns `None` if `middle`, the tokens after
-/// the attributes, does not begin with an optional visibility and `enum`.
+/// Returns `attributes` and the tokens after `enum`. `middle` has the tokens after the attributes.
+/// Returns `None` if `middle` does not begin with an optional visibility and `enum`.
 fn announced<'t, 's>(
     attributes: Tokens<'t, 's>,
     middle: Tokens<'t, 's>,
@@ -102,8 +102,8 @@ fn announced<'t, 's>(
     Some((attributes, rest))
 }
 
-/// Returns the attributes before `enum` and the tokens after it. Returns `None` if the run does not
-/// begin with well-formed attributes, an optional visibility and `enum`.
+/// Returns the attributes before `enum`, and the tokens after `enum`. Returns `None` if the run
+/// does not begin with well-formed attributes, an optional visibility and `enum`.
 fn read_front<'t, 's>(tokens: Tokens<'t, 's>) -> Option<(Tokens<'t, 's>, Tokens<'t, 's>)>
     ensures { MatchOption result (NoFront (tokens_of tokens.entry))
         (λ read. IsFront (tokens_of tokens.entry) (tokens_of read.0) (tokens_of read.1)) }
@@ -114,8 +114,7 @@ fn read_front<'t, 's>(tokens: Tokens<'t, 's>) -> Option<(Tokens<'t, 's>, Tokens<
     }
 }
 
-/// Returns the enum with the attributes `attributes`. `tokens` are the tokens after `enum`, to the
-/// end.
+/// Returns the enum with the attributes `attributes`. `tokens` are all tokens after `enum`.
 fn read_item<'t, 's>(
     alloc: Global,
     attributes: Tokens<'t, 's>,
@@ -139,23 +138,28 @@ fn read_item<'t, 's>(
     })
 }
 
-/// Reads an enum: attributes, an optional visibility, `enum`, a name, optional generic parameters
-/// and an optional where clause, and variants in braces, separated by commas with an optional comma
-/// after the last. No token can follow the braces. Only the structure of the enum and the runs of
-/// tokens are returned; attributes are not interpreted.
+/// Reads an enum.
 ///
-/// An attribute is `#` and brackets with a path, which can be followed by a group or by `=` and
-/// tokens; or it is an outer documentation comment. A visibility is `pub` with at most one group in
-/// parentheses. Any identifier can be a name. A generic parameter is a lifetime, a type, or `const`
-/// and a name. Attributes can come before it, and its bounds and default are returned as tokens. A
-/// where clause reaches up to the first brace that is not inside another group. A variant is
-/// attributes, a name, then nothing, fields in parentheses, or fields with names in braces, and
-/// optionally `=` and tokens. At most 128 types can be nested in the type of a field.
+/// An enum consists of attributes, an optional visibility, `enum`, a name, optional generic
+/// parameters, an optional where clause, and variants in braces. Commas separate the variants, and
+/// a comma may follow the last variant. No token can follow the braces. Only the structure of the
+/// enum and the runs of tokens are returned; attributes are not interpreted.
+///
+/// - An attribute is an outer documentation comment, or `#` and brackets with a path. The path can
+///   be followed by a group, or by `=` and tokens.
+/// - A visibility is `pub`, optionally followed by a group in parentheses.
+/// - A name is any identifier.
+/// - A generic parameter is a lifetime, a type, or `const` and a name. Attributes can come before
+///   the parameter. Its bounds and its default are returned as tokens.
+/// - A where clause ends before the first brace that is not inside another group.
+/// - A variant consists of attributes, a name, optional fields, and optionally `=` and tokens. The
+///   fields are in parentheses, or have names and are in braces. At most 128 types can be nested in
+///   the type of a field.
 ///
 /// # Errors
 ///
 /// Returns `NotAnEnum` if the run does not begin with well-formed attributes, an optional
-/// visibility and `enum`. Otherwise returns the first fault from the left: `Grammar` at a token
+/// visibility and `enum`. Otherwise, returns the first fault from the left: `Grammar` at a token
 /// that does not fit, `TypeUnsupported` at an unsupported type, or `LimitTypeNesting` at a type
 /// that exceeds the limit. Returns `Memory` if memory runs out.
 pub fn read_enum<'t, 's>(
@@ -176,7 +180,7 @@ pub fn read_enum<'t, 's>(
     Ok(item)
 }
 
-/// A run of tokens is at most one enum and has at most one fault, but never both.
+/// A run of tokens can be read as at most one enum and has at most one fault, but never both.
 pub fn reads_once()
     ensures { (run : TokenList) (one other : Result EnumValue ReadErrorValue) → Reads run one →
         Reads run other → one ≡ other }

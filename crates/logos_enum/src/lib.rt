@@ -1,5 +1,5 @@
-//! Reads an enum: its attributes, generic parameters and variants, with the runs of tokens that
-//! other crates read further.
+//! Reads an enum: its attributes, its generic parameters and its variants. Other crates read the
+//! runs of tokens in the enum.
 
 #![tactic(auto)]
 

@@ -1,4 +1,4 @@
-//! Takes single tokens from the front of a run. All readers of this crate call it.
+//! Takes single tokens from the front of a run. Called by all readers of this crate.
 
 ghost use Rattle.std.specs.Prelude.{◌≡◌, ◌<◌, ◌≤◌, true, false, List, Ok, Err, MatchOption, MatchResult};
 ghost use Rattle.logos_enum.specs.Views.{Span, Spacing, none, also, punctuation, count_of, rest_of, tokens_of, tree_of, first_span, greater, begins_with, is_none, is_outer, Grammar, after_item, name_in, ident_slice};
@@ -6,7 +6,7 @@ ghost use Rattle.logos_enum.specs.Views.{Span, Spacing, none, also, punctuation,
 use crate::error::{Mismatch, ReadError};
 use logos_token::token::{Ident, Span, TokenTree, Tokens};
 
-/// Returns the span of the first token, or `0..0` if there is none.
+/// Returns the span of the first token, or `0..0` if there are no tokens.
 pub(crate) fn first_span(tokens: Tokens<'_, '_>) -> Span
     ensures { result ≡ first_span (tokens_of tokens.entry) }
 {
@@ -16,7 +16,7 @@ pub(crate) fn first_span(tokens: Tokens<'_, '_>) -> Span
     }
 }
 
-/// Returns the mismatch at the first token, or at `0..0` if there is none.
+/// Returns the mismatch at the first token, or at `0..0` if there are no tokens.
 pub(crate) fn mismatch_at(tokens: Tokens<'_, '_>) -> Mismatch
     ensures { result.span ≡ first_span (tokens_of tokens.entry) }
 {
@@ -25,7 +25,7 @@ pub(crate) fn mismatch_at(tokens: Tokens<'_, '_>) -> Mismatch
     }
 }
 
-/// Returns the error `Grammar` at the first token, or at `0..0` if there is none.
+/// Returns the error `Grammar` at the first token, or at `0..0` if there are no tokens.
 pub(crate) fn grammar_at(tokens: Tokens<'_, '_>) -> ReadError
     ensures { result ≡ Grammar (first_span (tokens_of tokens.entry)) }
 {
@@ -43,8 +43,8 @@ pub(crate) fn split<'t, 's>(tokens: Tokens<'t, 's>) -> Option<(TokenTree<'t, 's>
     Some((tree, tokens.rest()))
 }
 
-/// Returns the tokens after the punctuation `mark`, joint or alone, or `None` if the run does not
-/// begin with it.
+/// Returns the tokens after the punctuation `mark`, joint or alone. Returns `None` if the run does
+/// not begin with `mark`.
 pub(crate) fn after_mark<'t, 's>(mark: char, tokens: Tokens<'t, 's>) -> Option<Tokens<'t, 's>>
     ensures { MatchOption result (begins_with mark (tokens_of tokens.entry) ≡ false)
         (λ rest. (begins_with mark (tokens_of tokens.entry) ≡ true)
@@ -56,8 +56,8 @@ pub(crate) fn after_mark<'t, 's>(mark: char, tokens: Tokens<'t, 's>) -> Option<T
     }
 }
 
-/// Returns whether a documentation comment is an outer one, which documents the item after it, such
-/// as `///` and `/**`.
+/// Returns whether the documentation comment `text` is an outer one, such as `///` or `/**`. An
+/// outer documentation comment documents the item that follows it.
 pub fn is_outer(text: &str) -> bool
     ensures { result ≡ is_outer text.now }
 {
@@ -67,8 +67,8 @@ pub fn is_outer(text: &str) -> bool
     }
 }
 
-/// Returns the name at the front, and the tokens after it. Returns `Grammar` if no name comes
-/// first.
+/// Returns the name at the front of `tokens`, and the tokens after the name. Returns `Grammar` if
+/// no name comes first.
 pub(crate) fn read_name<'t, 's>(
     tokens: Tokens<'t, 's>,
 ) -> Result<(Ident<'s>, Tokens<'t, 's>), ReadError>
@@ -84,7 +84,8 @@ pub(crate) fn read_name<'t, 's>(
 }
 
 /// Returns the tokens after the comma that must follow an element of a list in a group. At the end
-/// of the group no comma is needed. Returns `Grammar` at any other token.
+/// of the group, no comma is needed, and no tokens are returned. Returns `Grammar` at any other
+/// token.
 pub(crate) fn skip_comma<'t, 's>(tokens: Tokens<'t, 's>) -> Result<Tokens<'t, 's>, ReadError>
     ensures { MatchResult result
         (λ rest. (after_item is_none (tokens_of tokens.entry) ≡ Ok (tt, tokens_of rest))
@@ -98,8 +99,8 @@ pub(crate) fn skip_comma<'t, 's>(tokens: Tokens<'t, 's>) -> Result<Tokens<'t, 's
     }
 }
 
-/// Returns the tokens after the comma that must follow an element of a list in angle brackets, or
-/// all tokens before `>`, where no comma is needed. Returns `Grammar` otherwise.
+/// Returns the tokens after the comma that must follow an element of a list in angle brackets.
+/// Before `>`, no comma is needed, and all tokens are returned. Returns `Grammar` otherwise.
 pub(crate) fn skip_comma_or_angle<'t, 's>(
     tokens: Tokens<'t, 's>,
 ) -> Result<Tokens<'t, 's>, ReadError>

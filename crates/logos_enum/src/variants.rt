@@ -1,4 +1,4 @@
-//! Reads the variants of an enum. The reader of enums calls it.
+//! Reads the variants of an enum. Called by the reader of enums.
 
 ghost use Rattle.std.specs.Prelude.{◌≡◌, ◌<◌, ◌≤◌, List, map, Ok, Err, MatchOption, MatchResult, IfOk, IfErr};
 ghost use Rattle.logos_enum.specs.Views.{none, count_of, tokens_of, from_comma, value_in, discriminant_in, variant, variants, variant_value, Occurs};
@@ -19,8 +19,8 @@ pub struct Variant<'t, 's> {
     pub fields: Fields<'t, 's>,
 }
 
-/// Returns the tokens after the first one. Returns `None` if the first one is a comma, or there is
-/// none.
+/// Returns the tokens after the first token. Returns `None` if the first token is a comma, or there
+/// are no tokens.
 fn skip_other<'t, 's>(tokens: Tokens<'t, 's>) -> Option<Tokens<'t, 's>>
     ensures { MatchOption result (from_comma (tokens_of tokens.entry) ≡ tokens_of tokens.entry)
         (λ rest. (from_comma (tokens_of tokens.entry) ≡ from_comma (tokens_of rest))
@@ -45,7 +45,7 @@ fn skip_to_comma<'t, 's>(tokens: Tokens<'t, 's>) -> Tokens<'t, 's>
 }
 
 /// Returns the tokens from the first comma on, or no tokens if there is no comma. Returns `Grammar`
-/// if no token comes before the comma.
+/// if no token precedes the comma.
 fn skip_value<'t, 's>(tokens: Tokens<'t, 's>) -> Result<Tokens<'t, 's>, ReadError>
     ensures { MatchResult result
         (λ rest. (value_in (tokens_of tokens.entry) ≡ Ok (tt, tokens_of rest))
@@ -73,7 +73,7 @@ fn skip_discriminant<'t, 's>(tokens: Tokens<'t, 's>) -> Result<Tokens<'t, 's>, R
     }
 }
 
-/// Returns the variant at the front, and the tokens after it.
+/// Returns the variant at the front of `tokens`, and the tokens after the variant.
 fn read_variant<'t, 's>(
     alloc: Global,
     tokens: Tokens<'t, 's>,

@@ -23,7 +23,8 @@ pub enum Comparison {
 #[derive(Clone, Copy)]
 pub struct Named<'g, 's> {
     pub graph: &'g Graph<'s>,
-    /// For each leaf the number of its name. Leaves with the same number count as equal.
+    /// For each leaf, the number that represents its name. Leaves with the same number count as
+    /// equal.
     pub names: &'g [usize],
 }
 
@@ -38,8 +39,8 @@ struct GraphPair<'g> {
     utf8: bool,
 }
 
-/// Returns whether the leaves `mark` and `twin` have equal names in `names` and `others`, or both
-/// have no name there.
+/// Returns whether the name of the leaf `mark` in `names` equals the name of the leaf `twin` in
+/// `others`. Two missing names count as equal.
 fn same_mark(names: &[usize], mark: usize, others: &[usize], twin: usize) -> bool
     ensures { result ≡ machines.same_option (slice_get names.now mark) (slice_get others.now twin) }
 {
@@ -58,7 +59,8 @@ fn is_cut(utf8: bool, byte: u8) -> bool
     !utf8 | ((byte < 0x80) | (0xC0 <= byte))
 }
 
-/// Returns whether exactly one of two steps leads to a state: `next` and `twin` are their targets.
+/// Returns whether exactly one of two steps leads to a state. `next` and `twin` are the targets of
+/// the steps.
 fn one_leads(next: Option<usize>, twin: Option<usize>) -> bool
     ensures { result ≡ machines.one_leads next twin }
 {
@@ -66,9 +68,10 @@ fn one_leads(next: Option<usize>, twin: Option<usize>) -> bool
 }
 
 impl GraphPair<'_> {
-    /// Returns whether the last matches of the two graphs, or without any match their errors,
-    /// differ after a step from the point `at`. `mark` and `twin` are the leaves of the two graphs
-    /// whose matches end at this point. `parts` is whether the error of only one graph ends there.
+    /// Returns whether the last matches of the two graphs differ after a step from the point `at`,
+    /// or whether their errors differ if there is no match. `mark` and `twin` are the leaves of the
+    /// two graphs whose matches end at `at`. `parts` is `true` if the error of only one graph ends
+    /// at `at`.
     fn differs_after(
         &self,
         at: Point,
@@ -117,11 +120,13 @@ impl Machine for GraphPair<'_> {
     }
 }
 
-/// Compares two lexers of the same mode. Returns `Same` if they find equal matches and errors from
-/// each offset of each input, otherwise `Differ` with a shortest input at whose beginning they do
-/// not. Matches are equal if they end at the same offset and their leaves have the same name;
-/// errors, if they end at the same offset. Among inputs of the same length, the search prefers
-/// letters, then digits, then punctuation.
+/// Compares two lexers of the same mode.
+///
+/// Returns `Same` if the lexers find equal matches and errors from each offset of each input, and
+/// otherwise `Differ` with a shortest input at whose beginning they differ. Two matches are equal
+/// if they end at the same offset and their leaves have the same name. Two errors are equal if they
+/// end at the same offset. Among inputs of the same length, the search prefers letters, then
+/// digits, then punctuation.
 ///
 /// The graphs must have no faults. Callbacks are not compared. Skips are matches too: a lexer that
 /// skips two blanks one by one differs from a lexer that skips both at once.

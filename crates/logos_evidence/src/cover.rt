@@ -10,8 +10,8 @@ use crate::search::{Machine, Point, covering};
 use logos_graph::graph::{Graph, StateData};
 use std::alloc::{AllocError, Global};
 
-/// A machine that follows the edges of a graph. Its goals are the states with an edge at the end of
-/// the input.
+/// A machine that follows the edges of a graph. Its goals are the points at states with an edge for
+/// the end of the input.
 #[derive(Clone, Copy)]
 struct EdgeMachine<'g> {
     states: &'g [&'g StateData],
@@ -32,15 +32,14 @@ impl Machine for EdgeMachine<'_> {
     }
 }
 
-/// Returns inputs that together take all edges of a graph that any input takes: each edge from a
-/// state by a byte to its target, and each edge at the end of an input. The inputs are seeds for
-/// tests and fuzzers.
+/// Returns inputs that together take all edges of a graph that any input takes: the edges for
+/// bytes, and the edges for the end of the input. The inputs are seeds for tests and fuzzers.
 ///
 /// Each input takes an edge that no earlier input takes, so there are at most as many inputs as
 /// edges. In UTF-8 mode the inputs are UTF-8. Inputs that lead to states far from the root come
 /// first. Each input has at most one byte for each state on its way, and up to four more. If the
-/// enum has many long keywords and a leaf for names, the total length of all inputs can be the
-/// square of the number of states.
+/// enum has many long keywords and a leaf for names, the total length of all inputs can grow with
+/// the square of the number of states.
 ///
 /// # Errors
 ///

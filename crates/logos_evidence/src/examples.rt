@@ -18,8 +18,8 @@ struct Examples<'g> {
     leaf: usize,
 }
 
-/// Returns whether the last match after a step is a match of `leaf`: whether `mark`, the leaf whose
-/// match ends at the step, is `leaf`, or for `None` the answer `before` the step.
+/// Returns whether the last match after a step is a match of `leaf`. `mark` is the leaf whose match
+/// ends at the step. If `mark` is `None`, the result is `before`, the result for the previous step.
 pub(crate) fn is_last(leaf: usize, mark: Option<usize>, before: bool) -> bool
     ensures { result ≡ machines.is_last leaf mark before }
 {
@@ -29,7 +29,7 @@ pub(crate) fn is_last(leaf: usize, mark: Option<usize>, before: bool) -> bool
     }
 }
 
-/// Returns the point before the first byte, at the state `here`.
+/// Returns the point at the state `here` whose other fields are 0 or `false`.
 pub(crate) fn point_from(here: usize) -> Point
     ensures { result ≡ machines.point_from here }
 {

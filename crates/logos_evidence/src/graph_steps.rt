@@ -30,7 +30,7 @@ pub(crate) fn states_of<'g>(
     Ok(states)
 }
 
-/// Returns whether a class holds a byte.
+/// Returns whether a class contains a byte.
 fn holds(class: &ByteClass, byte: u8) -> bool
     ensures { result ≡ has_byte class.now byte }
 {
@@ -42,8 +42,8 @@ fn holds(class: &ByteClass, byte: u8) -> bool
     false
 }
 
-/// Returns the target of the first of these edges whose class holds `byte`, or `None` if there is
-/// none.
+/// Returns the target of the first of `edges` whose class contains `byte`, or `None` if there is no
+/// such edge.
 fn target_of(edges: &[(ByteClass, State)], byte: u8) -> Option<usize>
     ensures { result ≡ option_map (λ edge. edge.1)
         (find (λ edge. is_in edge.0 byte) (map edge_of edges.now)) }
@@ -56,8 +56,8 @@ fn target_of(edges: &[(ByteClass, State)], byte: u8) -> Option<usize>
     None
 }
 
-/// Returns the target of the edge of the state `from` whose class holds `byte`, or `None` if there
-/// is none.
+/// Returns the target of the edge of the state `from` whose class contains `byte`, or `None` if
+/// there is no such edge.
 fn target_in(from: &StateData, byte: u8) -> Option<usize>
     ensures { result ≡ option_map (λ edge. edge.1)
         (find (λ edge. is_in edge.0 byte) (graph_state_of from.now).normal) }
@@ -85,8 +85,8 @@ pub(crate) fn next_at_end(states: &[&StateData], state: usize) -> Option<usize>
     Some(next.index())
 }
 
-/// Returns the early mark of a state: the leaf whose match ends at the state, or `None` if there is
-/// none or no such state.
+/// Returns the early mark of a state, which is the leaf whose match ends at the state. Returns
+/// `None` if the state has no early mark or does not exist.
 fn early_of(states: &[&StateData], state: usize) -> Option<usize>
     ensures { result ≡ lasts.early_of (shown states.now) state }
 {
@@ -95,8 +95,8 @@ fn early_of(states: &[&StateData], state: usize) -> Option<usize>
     Some(leaf.0)
 }
 
-/// Returns the late mark of a state: the leaf whose match ends one byte before the state, or `None`
-/// if there is none or no such state.
+/// Returns the late mark of a state, which is the leaf whose match ends one byte before the state.
+/// Returns `None` if the state has no late mark or does not exist.
 fn late_of(states: &[&StateData], state: usize) -> Option<usize>
     ensures { result ≡ lasts.late_of (shown states.now) state }
 {
@@ -105,9 +105,9 @@ fn late_of(states: &[&StateData], state: usize) -> Option<usize>
     Some(leaf.0)
 }
 
-/// Returns the leaf whose match ends at `state`, or `None` if there is none: the late mark of
-/// `next`, the state to which the step from `state` leads, or without one the early mark of
-/// `state`.
+/// Returns the leaf whose match ends at `state`, or `None` if no match ends there. `next` is the
+/// state to which the step from `state` leads. The leaf is the late mark of `next`, or the early
+/// mark of `state` if `next` has no late mark.
 pub(crate) fn seen_by(states: &[&StateData], state: usize, next: Option<usize>) -> Option<usize>
     ensures { result ≡ lasts.seen_by (shown states.now) state next }
 {

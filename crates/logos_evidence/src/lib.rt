@@ -1,5 +1,5 @@
-//! Inputs as evidence about lexers: examples, differences, coverage. Called by `logos_answers` and
-//! `logos_causes`.
+//! Finds inputs as evidence about lexers: examples of matches, inputs for which lexers differ, and
+//! inputs that take all edges. Used by `logos_answers`, `logos_causes` and `logos_records`.
 
 #![tactic(auto)]
 

@@ -29,7 +29,7 @@ fn is_among(leaf: usize, leaves: &[usize]) -> bool
     leaves.iter().any(|other| *other == leaf)
 }
 
-/// Returns whether a leaf is among `leaves`, or `false` for `None`.
+/// Returns whether a leaf is among `leaves`, or `false` if `leaves` is `None`.
 fn lists(leaf: usize, leaves: Option<&[usize]>) -> bool
     ensures { result ≡ machines.lists leaf (option_map (λ listed. listed.now) leaves.entry) }
 {

@@ -14,13 +14,13 @@ use std::alloc::{AllocError, Global};
 pub struct Match {
     /// The number of the leaf.
     pub leaf: usize,
-    /// The offset of the input at which the match ends, in bytes.
+    /// The byte offset in the input at which the match ends.
     pub end: usize,
     /// The priority of the leaf.
     pub priority: usize,
 }
 
-/// Returns the priority of a leaf by its number, or 0 if there is no such leaf.
+/// Returns the priority of the leaf with the number `leaf`, or 0 if there is no such leaf.
 pub(crate) fn priority_of(leaves: &[Leaf<'_>], leaf: usize) -> usize
     ensures { result ≡ priority_of (rules_of leaves.now) leaf }
 {
@@ -30,7 +30,7 @@ pub(crate) fn priority_of(leaves: &[Leaf<'_>], leaf: usize) -> usize
     }
 }
 
-/// Appends to `found` a match that ends at the byte offset `end` for each leaf in `listed`.
+/// Appends a match to `found` for each leaf in `listed`. Each match ends at the byte offset `end`.
 ///
 /// # Errors
 ///
@@ -55,9 +55,9 @@ fn add_matches(
     Ok(())
 }
 
-/// Returns all matches of all leaves that begin at the byte offset `from` of an input, in the order
-/// of their ends, and at the same end in the order of the leaves. `from` must be at most the length
-/// of the input.
+/// Returns all matches of all leaves that begin at the byte offset `from` of an input. The matches
+/// are in the order of their ends, and matches with the same end are in the order of their leaves.
+/// `from` must be at most the length of the input.
 ///
 /// The leaves must have no faults except ambiguous sets. The input is read to its end.
 ///
@@ -97,8 +97,8 @@ pub fn matches_from(
     Ok(found)
 }
 
-/// Returns the better of two matches: the longer match, of two matches of the same length the one
-/// of higher priority, and `one` if the priorities are equal too.
+/// Returns the better of two matches: the longer match, or the match of higher priority if both
+/// have the same length. Returns `one` if the priorities are equal, too.
 fn better(one: Match, other: Match) -> Match
     ensures among { (result ≡ one) ⊎ (result ≡ other) }
     ensures first { IsAtMost one result }
@@ -113,9 +113,9 @@ fn better(one: Match, other: Match) -> Match
     one
 }
 
-/// Returns the match that a lexer selects among `matches`, which are all matches from an offset:
-/// the longest match, and of several longest ones the first of highest priority. Returns `None` if
-/// there is no match.
+/// Returns the match that a lexer selects among `matches`, which are all matches from an offset.
+/// This is the longest match. If several matches are longest, it is the first one with the highest
+/// priority among them. Returns `None` if there is no match.
 pub fn winner(matches: &[Match]) -> Option<Match>
     ensures { MatchOption result (matches.now ≡ []) (IsWinner matches.now) }
 {

@@ -12,15 +12,15 @@ use logos_graph::graph::Graph;
 use logos_pattern::leaf::Leaf;
 use std::alloc::{AllocError, Global};
 
-/// A machine that follows an automaton. Its goals are the points after inputs that begin with a
-/// span for which exactly the leaves of a set have the match of highest priority.
+/// A machine that follows an automaton. Its goals are the points after inputs with a prefix that
+/// exactly the leaves of a set match with the highest priority.
 #[derive(Clone, Copy)]
 struct Meetings<'g, 's> {
     graph: &'g Graph<'s>,
     set: &'g [usize],
 }
 
-/// Returns the highest priority among the leaves in `listed`, or 0 if there are none.
+/// Returns the highest priority among the leaves in `listed`, or 0 if `listed` is empty.
 fn highest(leaves: &[Leaf<'_>], listed: &[usize]) -> usize
     ensures { result ≡ highest_of (rules_of leaves.now) listed.now }
 {
@@ -31,8 +31,8 @@ fn highest(leaves: &[Leaf<'_>], listed: &[usize]) -> usize
     highest
 }
 
-/// Returns `rest` without its first leaf if that is `leaf`, otherwise `None`. Returns `rest`
-/// unchanged if `counts` is `false`.
+/// Returns `rest` without its first leaf if this leaf is `leaf`, and `None` otherwise. Returns
+/// `rest` unchanged if `counts` is `false`.
 fn after_leaf(rest: &[usize], leaf: usize, counts: bool) -> Option<&[usize]>
     ensures { MatchOption result
         (IsTrue counts × ((ys : List ℕ) → bytes_eq (leaf ∷ ys) rest.now ≡ false))
@@ -46,8 +46,8 @@ fn after_leaf(rest: &[usize], leaf: usize, counts: bool) -> Option<&[usize]>
     if *first == leaf { Some(others) } else { None }
 }
 
-/// Returns whether the leaves of highest priority in `listed` are exactly `set`. Both are in
-/// ascending order.
+/// Returns whether `set` consists of exactly the leaves of highest priority in `listed`. Both lists
+/// are in ascending order.
 fn is_top(leaves: &[Leaf<'_>], listed: &[usize], set: &[usize]) -> bool
     ensures { result ≡ bytes_eq (top_of (rules_of leaves.now) listed.now) set.now }
 {
@@ -63,8 +63,8 @@ fn is_top(leaves: &[Leaf<'_>], listed: &[usize], set: &[usize]) -> bool
     rest.is_empty()
 }
 
-/// Returns whether the leaves of highest priority in `listed` are exactly `set`, or `false` if
-/// `listed` is `None`.
+/// Returns whether `set` consists of exactly the leaves of highest priority in `listed`. Returns
+/// `false` if `listed` is `None`.
 fn tops_are(leaves: &[Leaf<'_>], listed: Option<&[usize]>, set: &[usize]) -> bool
     ensures { result ≡ machines.tops_are (rules_of leaves.now) set.now (option_map (λ listed. listed.now) listed.entry) }
 {
@@ -74,8 +74,8 @@ fn tops_are(leaves: &[Leaf<'_>], listed: Option<&[usize]>, set: &[usize]) -> boo
     }
 }
 
-/// Returns the point at a state, or if `met` holds the point after the set was met, which is equal
-/// for all states.
+/// Returns the point at `state`. If `met` is `true`, returns the point after the set was met, which
+/// does not depend on `state`.
 fn point_at(state: usize, met: bool) -> Point
     ensures { result ≡ machines.meeting_at state met }
 {
@@ -109,9 +109,9 @@ impl Machine for Meetings<'_, '_> {
     }
 }
 
-/// Returns a shortest input that begins with a span for which exactly the leaves of a set have the
-/// match of highest priority, or `None` if and only if there is no such input. Among inputs of the
-/// same length, the search prefers letters, then digits, then punctuation.
+/// Returns a shortest input with a prefix that exactly the leaves of a set match with the highest
+/// priority. Returns `None` if and only if there is no such input. Among inputs of the same length,
+/// the search prefers letters, then digits, then punctuation.
 ///
 /// The set must be nonempty and in ascending order. The leaves must have no faults except ambiguous
 /// sets.

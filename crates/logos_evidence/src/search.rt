@@ -1,5 +1,5 @@
-//! Searches over machines that read bytes: for a shortest input that leads to a goal, and for
-//! inputs that together take all steps. Used by the other modules of this crate.
+//! Searches machines that read bytes for a shortest input that leads to a goal, and for inputs that
+//! together take all steps. Used by the other modules of this crate.
 
 ghost use Rattle.std.specs.Prelude.{◌≡◌, IfOk, MatchOption};
 ghost use Rattle.logos_evidence.specs.search.Views.{IsShortest, NoneLeads, pending_goal};
@@ -29,8 +29,8 @@ pub(crate) fn is_goal<M: Machine>(machine: &M, pending: PendingPoint) -> bool
 /// there is no such input. Among inputs of the same length, the search prefers letters, then
 /// digits, then punctuation.
 ///
-/// If `utf8` holds, inputs are UTF-8, otherwise any bytes. The search stores each visited point
-/// with its predecessor and the byte that leads from there.
+/// If `utf8` is `true`, only inputs in UTF-8 are considered. The search stores each visited point
+/// with its predecessor, and the byte that leads from the predecessor to the point.
 ///
 /// # Errors
 ///

@@ -40,8 +40,8 @@ pub(crate) fn listed(dfa: &Dfa, state: usize) -> Option<&[usize]>
     Some(leaves_at(dfa, state))
 }
 
-/// Returns the leaves that the state after the end of the input lists, to which `state` leads, or
-/// `None` if the automaton does not have `state`.
+/// Returns the leaves that are listed by the state to which the end of the input leads from
+/// `state`. Returns `None` if the automaton does not have `state`.
 pub(crate) fn listed_at_end(dfa: &Dfa, state: usize) -> Option<&[usize]>
     ensures { option_map (λ leaves. leaves.now) result ≡ steps.listed_at_end (dfa_of dfa.now) state }
 {

@@ -1,4 +1,4 @@
-//! Expands the derive of the lexers in a file. Called by `logos_cli`.
+//! Expands the `Logos` derives in a file. Called by `logos_cli`.
 
 ghost use Rattle.std.specs.Prelude.{◌≡◌, ◌<◌, ◌≤◌, ◌++◌, ◌^◌, ◌-◌, All, IfErr, IfOk, IfSome, IsTrue, OnOk, length, map, min, string_bytes};
 ghost use Rattle.logos_expand.specs.Views.{IsRefused, AreInOrder, IsFoundCut, found_span, part_span, AreEnumsOf, InReport, Refuses, IsExpanded, IsExpansion, IsUnreadable, AreRefused, AreReportLines, FailsFor, GathersAll, ShowsRefused, errors_in, report_texts, AddsRefusal, GathersOne, HasSets, IsExpansionBy, around_made, sizes_of, Spells, SpellsEnum, tokens_of};
@@ -28,12 +28,12 @@ use logos_token::token::{Span, Tokens, tokenize};
 use logos_warnings::Origin;
 use std::alloc::{AllocError, Global};
 
-/// The text of a file with the derive of its lexers expanded, and the text of its warnings.
+/// The text of a file with its `Logos` derives expanded, and the text of the file's warnings.
 #[derive(Drop)]
 pub struct Expansion {
     /// The text of the file, in UTF-8.
     pub bytes: Vec<u8>,
-    /// The text of the warnings, in UTF-8, and in the format that was requested for messages.
+    /// The text of the warnings, in UTF-8 and in the requested format of messages.
     pub warnings: Vec<u8>,
 }
 
@@ -44,17 +44,19 @@ struct Gathered {
     refused: Vec<Refused>,
 }
 
-/// Returns the file `source` with each enum that derives `Logos` replaced: by the enum without the
-/// derive and its attributes, followed by the implementation in the shape `shape`. If there is such
-/// an enum, a first line states that the file is generated, unless `#!` or U+FEFF must remain
-/// first, and the documentation and the attributes of the file itself become plain comments where
-/// they can. All other text stays unchanged. `showing` is the form of the messages.
+/// Returns the file `source` with each enum that derives `Logos` expanded: the derive and its
+/// attributes are removed, and the implementation in the shape `shape` follows the enum. `showing`
+/// is the form of the messages.
+///
+/// If the file contains such an enum, a first line states that the file is generated, unless `#!`
+/// or U+FEFF must remain first. The inner documentation and the inner attributes of the file become
+/// plain comments where possible. All other text is unchanged.
 ///
 /// # Errors
 ///
 /// Returns `Refused` with the text of the file's warnings and of all faults of these enums, in the
-/// order of the file, or of the one fault of a file that cannot be read into tokens. Also returns
-/// `Refused`, with the text of the warnings, for a file without faults whose warnings are denied.
+/// order of the file. If the file cannot be read into tokens, the text contains the one fault of
+/// the file. If the file has no faults but its warnings are denied, the text contains the warnings.
 /// Returns `Memory` if memory runs out.
 pub fn expand<'w>(
     source: &Source<'_>,
@@ -71,8 +73,8 @@ pub fn expand<'w>(
     expand_enums(source, shape, showing, &file)
 }
 
-/// Returns the failure for a file that cannot be read into tokens, because of `refusal`. It is
-/// `Memory` if memory runs out.
+/// Returns the failure for a file that cannot be read into tokens. `refusal` is the reason. The
+/// failure is `Memory` if memory runs out.
 fn refused_whole<'w>(source: &Source<'_>, showing: Showing, refusal: Refusal) -> Failure<'w>
     requires { Refuses (IsUnreadable source.now.text) refusal }
     ensures { (shape : Shape) → FailsFor showing.format showing.denies shape source.now result }
@@ -85,8 +87,8 @@ fn refused_whole<'w>(source: &Source<'_>, showing: Showing, refusal: Refusal) ->
     }
 }
 
-/// Returns the expansion of the file `source`, which was read into `file`, or the failure with its
-/// faults or its denied warnings.
+/// Returns the expansion of the file `source`, or the failure with the faults or the denied
+/// warnings of the file. `file` is the result of reading `source`.
 fn expand_enums<'w>(
     source: &Source<'_>,
     shape: Shape,
@@ -116,15 +118,15 @@ fn expand_enums<'w>(
     Err(refused_file(source, showing, &gathered.refused, &warned))
 }
 
-/// Returns whether a file may import `Logos`: whether its text contains a path that such an import
-/// could have.
+/// Returns whether a file may import `Logos`: whether the text of the file contains a path that an
+/// import of `Logos` could have.
 fn has_import(source: &Source<'_>) -> bool {
     let text = source.text();
     text.contains("::Logos") | text.contains("logos::{") | text.contains("::*")
 }
 
-/// Returns the expansion of a file without faults, in which `parts` are replaced, or the failure
-/// with its warnings `warned` if they are denied. `tokens` are those of the file.
+/// Returns the expansion of a file without faults, with `parts` replaced, or the failure with the
+/// warnings `warned` if they are denied. `tokens` are the tokens of the file.
 fn accepted_file<'w>(
     source: &Source<'_>,
     shape: Shape,
@@ -149,8 +151,8 @@ fn accepted_file<'w>(
     })
 }
 
-/// Returns the failure for a file whose warnings `warned` are denied. It is `Memory` if memory runs
-/// out.
+/// Returns the failure for a file whose warnings `warned` are denied. The failure is `Memory` if
+/// memory runs out.
 fn denied_file<'w>(source: &Source<'_>, showing: Showing, warned: &[Warning]) -> Failure<'w>
     requires denies { IsTrue showing.denies }
     requires some { 0 < length warned.now }
@@ -164,9 +166,11 @@ fn denied_file<'w>(source: &Source<'_>, showing: Showing, warned: &[Warning]) ->
     }
 }
 
-/// Returns the text of a file, which has the tokens `tokens`, with `parts` replaced. If there are
-/// any, its first line states that it is generated, where a line can be inserted, and its own
-/// documentation and attributes are plain comments, where they can be.
+/// Returns the text of a file with `parts` replaced. `tokens` are the tokens of the file.
+///
+/// If there are parts, the first line states that the file is generated, unless no line can be
+/// inserted. The inner documentation and the inner attributes of the file become plain comments
+/// where possible.
 fn expanded_file(
     alloc: Global,
     source: &Source<'_>,
@@ -186,9 +190,10 @@ fn expanded_file(
     with_head(alloc, source.path(), shape, &body)
 }
 
-/// Returns the file with the text `bytes`, with plain comments in place of its own documentation
-/// and attributes. Returns `bytes` if the file does not begin with such attributes or cannot have
-/// such comments. `tokens` are those of the file before parts of it were replaced.
+/// Returns `bytes`, the text of a file, with plain comments in place of the file's inner
+/// documentation and inner attributes. Returns `bytes` unchanged if there are none or if they
+/// cannot become plain comments. `tokens` are the tokens of the file before its parts were
+/// replaced.
 fn plain_file(alloc: Global, bytes: Vec<u8>, tokens: Tokens<'_, '_>) -> Result<Vec<u8>, Memory>
     ensures { IfOk result (λ body. IsWithoutInner bytes.items body.items) }
 {
@@ -201,8 +206,8 @@ fn plain_file(alloc: Global, bytes: Vec<u8>, tokens: Tokens<'_, '_>) -> Result<V
     }
 }
 
-/// Returns the text of a file with plain comments in place of its own documentation and attributes,
-/// or `None` if the file cannot have such comments or is not UTF-8.
+/// Returns the text of a file with plain comments in place of the file's inner documentation and
+/// inner attributes, or `None` if they cannot become plain comments or the text is not UTF-8.
 fn plain_bytes(alloc: Global, bytes: &[u8]) -> Result<Option<Vec<u8>>, Memory>
     ensures { IfOk result (λ found. IfSome found (λ body. IsPlainly bytes.now body.items)) }
 {
@@ -216,7 +221,8 @@ fn plain_bytes(alloc: Global, bytes: &[u8]) -> Result<Option<Vec<u8>>, Memory>
 }
 
 /// Returns the replacements of the accepted enums among `found`, and the faults of the refused
-/// ones. Appends the warnings for all enums of `found` to `warned`. `text` is the text of the file.
+/// enums. Appends the warnings for all enums of `found` to `warned`. `text` is the text of the
+/// file.
 fn gather(
     text: &str,
     site: Site<'_, '_>,
@@ -242,8 +248,8 @@ fn gather(
     Ok(gathered)
 }
 
-/// Adds the replacement or the faults of the enum `one` to `gathered`, if the enum derives `Logos`,
-/// and appends the warnings for it to `warned`. `text` is the text of the file.
+/// Adds the replacement or the faults of the enum `one` to `gathered` if the enum derives `Logos`.
+/// Appends the warnings for the enum to `warned`. `text` is the text of the file.
 fn gather_enum(
     text: &str,
     site: Site<'_, '_>,
@@ -286,8 +292,8 @@ fn gather_enum(
     }
 }
 
-/// Returns the clues about a refused enum, and appends all its warnings to `warned`. `text` spells
-/// the enum, and begins at the byte offset `offset` of the file.
+/// Returns the clues about a refused enum, and appends all warnings for the enum to `warned`.
+/// `text` is the text of the enum, and begins at the byte offset `offset` of the file.
 fn clues_of(text: &str, offset: usize, warned: &mut Vec<Warning>) -> Result<Clues, Memory>
     ensures sets { IfOk result (λ clues. HasSets text.now (sizes_of clues)) }
     ensures warns { IfOk result (λ clues. AddsSome warned.old.items warned.new.items) }
@@ -297,8 +303,8 @@ fn clues_of(text: &str, offset: usize, warned: &mut Vec<Warning>) -> Result<Clue
     Ok(clues)
 }
 
-/// Appends the faults of `refusal` to `refused`, with the clues and the helps for them. `part` is
-/// the part of the file that has the faults.
+/// Appends the faults of `refusal` to `refused`, with their clues and helps. `part` is the part of
+/// the file that has the faults.
 fn push_refusal(
     refused: &mut Vec<Refused>,
     part: Part<'_, '_>,
@@ -322,7 +328,7 @@ fn push_refusal(
     }
 }
 
-/// Returns the enum `source` without the derive and its attributes, followed by its implementation,
+/// Returns the enum `source` without the derive and its attributes, followed by the implementation,
 /// or the refusal of the enum. Appends the warnings for an accepted enum and for its lexer to
 /// `warned`.
 fn expanded(source: &str, site: Site<'_, '_>, warned: &mut Vec<Warning>) -> Result<String, Refusal>
@@ -343,7 +349,7 @@ fn expanded(source: &str, site: Site<'_, '_>, warned: &mut Vec<Warning>) -> Resu
 }
 
 /// Returns the enum `source` without the derive and its attributes, followed by the implementation
-/// for which `made` was generated. Appends the warnings for the enum and for its lexer to `warned`.
+/// from `made`. Appends the warnings for the enum and for its lexer to `warned`.
 fn expansion_by(
     source: &str,
     site: Site<'_, '_>,
@@ -363,8 +369,8 @@ fn expansion_by(
     }
 }
 
-/// Returns the expansion of an enum with the tokens `tokens`, and appends its warnings to `warned`,
-/// like `expansion_by`.
+/// Returns the result of `expansion_by` for an enum with the tokens `tokens`. Appends the warnings
+/// for the enum and for its lexer to `warned`.
 fn expansion_with(
     source: &str,
     tokens: Tokens<'_, '_>,
@@ -389,8 +395,9 @@ fn expansion_with(
     printed_with(alloc, source, left.run(), site, made)
 }
 
-/// Returns the failure for a file with the faults `refused`: the text of the faults, after that of
-/// the warnings `warned`. It is `Memory` if memory runs out.
+/// Returns the failure for a file with the faults `refused`. The failure contains the text of the
+/// warnings `warned`, followed by the text of the faults. The failure is `Memory` if memory runs
+/// out.
 fn refused_file<'w>(
     source: &Source<'_>,
     showing: Showing,
@@ -406,8 +413,8 @@ fn refused_file<'w>(
     }
 }
 
-/// Returns the text of the faults `refused` of a file, after that of its warnings `warned`, in the
-/// requested format.
+/// Returns the text of the warnings `warned` of a file, followed by the text of the faults
+/// `refused`, in the requested format.
 fn faults_text(
     source: &Source<'_>,
     showing: Showing,
@@ -426,8 +433,8 @@ fn faults_text(
     }
 }
 
-/// Returns a line of JSON for each of the warnings `warned` and then for each fault of `refused`.
-/// At most the first 50 warnings have a line, and at most 50 faults of one code.
+/// Returns a line of JSON for each of the warnings `warned` and then for each of the faults
+/// `refused`. At most the first 50 warnings, and at most 50 faults of one code, have a line.
 fn fault_lines(
     alloc: Global,
     source: &Source<'_>,
@@ -441,9 +448,9 @@ fn fault_lines(
     Ok(lines)
 }
 
-/// Returns the report of the warnings `warned` of a file, of the faults `refused`, in order, and of
-/// their number. For each fault, the report has a line with the name of its code and the first line
-/// of its message, and one with its location in the file.
+/// Returns the report of a file: the warnings `warned`, the faults `refused` in order, and the
+/// number of faults. For each fault, the report has a line with the name of the fault's code and
+/// the first line of the fault's message, and a line with the fault's location in the file.
 fn refusal_text(
     source: &Source<'_>,
     showing: Showing,
@@ -460,8 +467,8 @@ fn refusal_text(
     page.finish()
 }
 
-/// Returns the number of errors that are reported for the faults `refused`, or the greatest number
-/// if there are more.
+/// Returns the number of errors that are reported for the faults `refused`, or `usize::MAX` if
+/// there are more.
 fn count_refused(refused: &[Refused]) -> usize
     ensures { result ≡ min (errors_in refused.now) (2 ^ 64 - 1) }
 {

@@ -1,5 +1,5 @@
-//! Makes the first line of an expanded file, which names its source. Used by `expansion` and
-//! `logos_cli`.
+//! Makes the first line of an expanded file. The line names the source of the file. Used by
+//! `expansion` and `logos_cli`.
 
 ghost use Rattle.std.specs.Prelude.{◌≡◌, ◌++◌, IfOk, OnOk, string_bytes};
 ghost use Rattle.logos_expand.specs.Views.{code_name, head_of, head_text, headed, is_byte_order_mark, is_plain, is_printable, is_script_mark, line_text, may_follow_line, shape_name, shown_name};
@@ -9,9 +9,11 @@ use logos_tables::Shape;
 use logos_token::error::Memory;
 use std::alloc::Global;
 
-/// Returns the file with the text `body` after a first line, which names the file at `path` from
-/// which it was made, and the shape `shape`. Returns `body` alone if it begins with U+FEFF or with
-/// `#!` without `[` after it, which must remain first.
+/// Returns a first line, followed by `body`, the text of a file. The line names the shape `shape`
+/// and the file at `path`, from which the text was made.
+///
+/// Returns `body` alone if it begins with U+FEFF, or with `#!` that no `[` follows. These must
+/// remain first.
 pub(crate) fn with_head(
     alloc: Global,
     path: &str,
@@ -26,8 +28,8 @@ pub(crate) fn with_head(
     Ok(made)
 }
 
-/// Returns the first line for a file with the text `bytes`, which was made from the file at `path`,
-/// or an empty text if no line can be inserted before `bytes`.
+/// Returns the first line of a file that was made from the file at `path`. Returns an empty text if
+/// no line can be inserted before `bytes`, the text of the file.
 fn head_of(alloc: Global, path: &str, shape: Shape, bytes: &[u8]) -> Result<String, Memory>
     ensures { IfOk result (λ head. string_bytes head ≡ head_of shape path.now bytes.now) }
 {
@@ -39,8 +41,8 @@ fn head_of(alloc: Global, path: &str, shape: Shape, bytes: &[u8]) -> Result<Stri
     Ok(text)
 }
 
-/// Returns whether a line can be inserted before the text `bytes` of a file: whether it begins
-/// neither with U+FEFF nor with `#!` and a byte other than `[`.
+/// Returns whether a line can be inserted before `bytes`, the text of a file: whether the text
+/// begins neither with U+FEFF nor with `#!` and a byte other than `[`.
 fn may_follow_line(bytes: &[u8]) -> bool
     ensures { result ≡ may_follow_line bytes.now }
 {
@@ -59,23 +61,24 @@ fn is_byte_order_mark(first: u8, second: u8, third: u8) -> bool
     (first == 0xEF) & ((second == 0xBB) & (third == 0xBF))
 }
 
-/// Returns whether three bytes are `#!` and a byte other than `[`, with which a line begins that
-/// names the program for a script.
+/// Returns whether three bytes are `#!` and a byte other than `[`. A line with this beginning names
+/// the program that runs a script.
 fn is_script_mark(first: u8, second: u8, third: u8) -> bool
     ensures { result ≡ is_script_mark first second third }
 {
     (first == b'#') & ((second == b'!') & (third != b'['))
 }
 
-/// Appends the first line of a file that was made from the file with the name `name`.
+/// Appends the first line of a file to `text`. The file was made from the file with the name
+/// `name`.
 fn push_head(text: &mut String, name: &str, shape: Shape) -> Result<(), Memory>
     ensures { OnOk result (string_bytes text.new ≡ string_bytes text.old ++ head_text name.now shape) }
 {
     push_line(text, shown_name(name), shape_name(shape))
 }
 
-/// Appends the first line of a file to `text`, with the name `name` of its source and the name
-/// `shape` of a shape.
+/// Appends the first line of a file to `text`. The line contains `name`, the name of the source
+/// file, and `shape`, the name of a shape.
 fn push_line(text: &mut String, name: &str, shape: &str) -> Result<(), Memory>
     ensures { OnOk result (string_bytes text.new ≡ string_bytes text.old ++ line_text name.now shape.now) }
 {
@@ -86,8 +89,8 @@ fn push_line(text: &mut String, name: &str, shape: &str) -> Result<(), Memory>
     Ok(())
 }
 
-/// Returns the name of a file as the first line shows it: `another file` instead of a name that
-/// contains anything but printable ASCII.
+/// Returns the file name `name` for the first line: `another file` if the name contains anything
+/// but printable ASCII, and otherwise the name itself.
 fn shown_name(name: &str) -> &str
     ensures { result.now ≡ shown_name name.now }
 {
@@ -97,7 +100,7 @@ fn shown_name(name: &str) -> &str
     "another file"
 }
 
-/// Returns whether all of `bytes` are printable ASCII: from 32 to 126.
+/// Returns whether all of `bytes` are printable ASCII, from 32 to 126.
 fn is_plain(bytes: &[u8]) -> bool
     ensures { result ≡ is_plain bytes.now }
 {
@@ -109,14 +112,14 @@ fn is_plain(bytes: &[u8]) -> bool
     true
 }
 
-/// Returns whether a byte is printable ASCII: from 32 to 126.
+/// Returns whether a byte is printable ASCII, from 32 to 126.
 fn is_printable(byte: u8) -> bool
     ensures { result ≡ is_printable byte }
 {
     (32 <= byte) & (byte <= 126)
 }
 
-/// Returns the name of a shape, as the option `--shape` has it: `state_machine`, `tailcall` or
+/// Returns the name of a shape as a value of the option `--shape`: `state_machine`, `tailcall` or
 /// `tables`.
 pub fn shape_name(shape: Shape) -> &'static str
     ensures { result.now ≡ shape_name shape }
@@ -127,8 +130,8 @@ pub fn shape_name(shape: Shape) -> &'static str
     }
 }
 
-/// Returns the name of a shape of code: of the loop over a state if `is_loop` is set, otherwise of
-/// the function for each state.
+/// Returns the name of a shape of code: of the loop over the current state if `is_loop` is `true`,
+/// and of the function for each state otherwise.
 fn code_name(is_loop: bool) -> &'static str
     ensures { result.now ≡ code_name is_loop }
 {

@@ -1,4 +1,4 @@
-//! Expands the derive of the lexers in a Rust file. Called by `logos_cli`.
+//! Expands the `Logos` derives in a Rust file. Called by `logos_cli`.
 
 #![tactic(auto)]
 

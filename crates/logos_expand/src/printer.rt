@@ -13,7 +13,7 @@ use logos_tables::{Shape, lexer_text};
 use logos_text::{Call, Sink};
 use std::alloc::Global;
 
-/// The location of an enum in a file, with the shape of its lexer.
+/// The file and the byte offset of an enum, with the shape of the enum's lexer.
 #[derive(Clone, Copy)]
 pub(crate) struct Site<'f, 't> {
     /// The shape of the lexer of the enum.
@@ -22,15 +22,15 @@ pub(crate) struct Site<'f, 't> {
     pub(crate) file: &'f Source<'t>,
     /// The byte offset of the enum in the file.
     pub(crate) offset: usize,
-    /// Whether the file may have an import of `Logos`, and the enum derives `Logos` without a path.
+    /// Whether the file may import `Logos` and the enum derives `Logos` without a path.
     pub(crate) by_name: bool,
 }
 
 /// The import of `Logos`, marked as used.
 const IMPORT: &str = "#[allow(unused_imports)]\nuse self::Logos as _;\n";
 
-/// The attributes of an implementation. They disable rustfmt, and the lints of rustc and clippy
-/// that generated code violates.
+/// The attributes of an implementation. The attributes disable rustfmt, and the lints of rustc and
+/// clippy that generated code violates.
 const ATTRIBUTES: &str = "\
 #[allow(dead_code, deprecated, unused_assignments, unused_imports)]
 #[allow(unused_parens, unused_variables)]
@@ -44,8 +44,8 @@ const ATTRIBUTES: &str = "\
 /// The line with the attribute that excludes an enum from rustfmt.
 const GUARD: &str = "#[rustfmt::skip]\n";
 
-/// Returns the replacement of an enum: the text of `left`, the tokens of `source` that remain, and
-/// after LF the implementation for which `made` was generated, laid out.
+/// Returns the replacement of an enum: the text of `left`, the remaining tokens of `source`,
+/// followed by LF and the implementation from `made`, laid out in lines.
 pub(crate) fn printed_with(
     alloc: Global,
     source: &str,
@@ -66,8 +66,8 @@ pub(crate) fn printed_with(
     Ok(text)
 }
 
-/// Returns the text of `left`, the tokens of `source` that remain, after `#[rustfmt::skip]` if
-/// rustfmt would otherwise change it.
+/// Returns the text of `left`, the remaining tokens of `source`. `#[rustfmt::skip]` precedes the
+/// text if rustfmt would otherwise change it.
 fn guarded(
     alloc: Global,
     source: &str,
@@ -105,8 +105,8 @@ fn push_guard(text: &mut String, margin: &str) -> Result<(), Memory>
     Ok(())
 }
 
-/// Returns whether `bytes` contain a comma and, perhaps after white space, a closing parenthesis,
-/// as they do if the last entry of a `derive` was removed.
+/// Returns whether `bytes` contain a comma followed by a closing parenthesis, with or without white
+/// space between the two. The removal of the last entry of a `derive` leaves such a comma.
 fn has_last_comma(bytes: &[u8]) -> bool {
     let mut last = b' ';
     for byte in bytes {
@@ -127,8 +127,9 @@ fn last_of(last: u8, byte: u8) -> u8 {
     }
 }
 
-/// Returns the blanks before the byte offset `offset` of a text, back to the beginning of the line.
-/// Returns an empty text if anything else is between them, or if no character begins at the offset.
+/// Returns the blanks between the beginning of a line and the byte offset `offset` of a text.
+/// Returns an empty text if the line has any other bytes before the offset, or if no character
+/// begins at the offset.
 fn margin_at(text: &str, offset: usize) -> &str
     ensures { are_blanks result.now ≡ true }
 {
@@ -163,8 +164,8 @@ fn are_blanks(bytes: &[u8]) -> bool
     true
 }
 
-/// Returns the text `whole`, which ends with that of `lexer`, laid out. Before each call of a
-/// callback, a comment names the line of the callback in the file.
+/// Returns the text `whole` laid out in lines. `whole` ends with the text of `lexer`. Before each
+/// call of a callback, a comment names the line of the callback in the file.
 fn laid_out(alloc: Global, whole: &str, site: Site<'_, '_>, lexer: &Sink) -> Result<String, Memory>
     ensures { IfOk result (λ laid. IsLaidOut whole.now (string_bytes laid)) }
 {
@@ -198,8 +199,9 @@ fn notes_of(
     Ok(notes)
 }
 
-/// Returns the text `lexer` with its attributes, after the import of `Logos` if `by_name` is set.
-/// The import and `lexer` each have the `cfg` attributes of the enum with the tokens `left`.
+/// Returns the text `lexer` with its attributes. The import of `Logos` precedes the text if
+/// `by_name` is `true`. The import and `lexer` each have the `cfg` attributes of the enum with the
+/// tokens `left`.
 fn under(alloc: Global, by_name: bool, left: Tokens<'_, '_>, lexer: &str) -> Result<String, Memory>
     ensures { IfOk result (λ text.
         string_bytes text ≡ under by_name (tokens_of left.entry) lexer.now) }
@@ -211,7 +213,7 @@ fn under(alloc: Global, by_name: bool, left: Tokens<'_, '_>, lexer: &str) -> Res
 }
 
 /// Appends the import of `Logos` to `text`, with the `cfg` attributes of the enum with the tokens
-/// `left`. Appends nothing unless `by_name` is set.
+/// `left`. Appends nothing if `by_name` is `false`.
 fn push_import(
     alloc: Global,
     text: &mut String,

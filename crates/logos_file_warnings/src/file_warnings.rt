@@ -27,8 +27,8 @@ pub struct Showing {
     pub denies: bool,
 }
 
-/// Appends `warnings` to `warned`. Their spans are in a text that begins at the byte offset
-/// `offset` of a file, and become spans in the file.
+/// Appends `warnings` about a text to `warned`. The text begins at the byte offset `offset` of a
+/// file, and the spans of the warnings become spans in the file.
 ///
 /// # Errors
 ///
@@ -71,7 +71,7 @@ fn moved_span(span: Span, offset: usize) -> Span
 }
 
 /// Appends to `warned` the warnings for the enum that `text` spells. The text begins at the byte
-/// offset `offset` of a file. `derives` is whether the enum derives `Logos`.
+/// offset `offset` of a file. `derives` is `true` if the enum derives `Logos`.
 ///
 /// # Errors
 ///
@@ -133,9 +133,9 @@ pub fn add_passed(
 
 const MISSING: &str = "no enum in this file derives `Logos`";
 
-/// Appends to `warned` the warning that no enum of a file derives `Logos`, if none of `found` does
-/// and the format is JSON or warnings are denied. The span of the warning is the empty one at the
-/// beginning of the file.
+/// Appends to `warned` the warning that no enum of a file derives `Logos`. Appends nothing if an
+/// enum in `found` derives `Logos`, or if the format is not JSON and warnings are not denied. The
+/// span of the warning is the empty span at the beginning of the file.
 ///
 /// # Errors
 ///
@@ -156,8 +156,8 @@ pub fn add_missing(
     Ok(())
 }
 
-/// Returns whether a file without an enum that derives `Logos` has a warning: whether the format is
-/// JSON or warnings are denied.
+/// Returns whether a file in which no enum derives `Logos` has a warning. Such a file has a warning
+/// if the format is JSON or warnings are denied.
 fn reports_missing(showing: Showing) -> bool
     ensures { result ≡ reports_missing showing.denies showing.format }
 {
@@ -167,7 +167,7 @@ fn reports_missing(showing: Showing) -> bool
     }
 }
 
-/// Returns whether one of `found` derives `Logos`.
+/// Returns whether an enum in `found` derives `Logos`.
 pub fn has_lexer(found: &[FoundEnum]) -> bool
     ensures { result ≡ has_lexer found.now }
 {
@@ -179,7 +179,7 @@ pub fn has_lexer(found: &[FoundEnum]) -> bool
     false
 }
 
-/// Returns the spans in the file of those of `found` that derive `Logos`, in order.
+/// Returns the spans in the file of the enums in `found` that derive `Logos`, in order.
 fn spans_of(alloc: Global, found: &[FoundEnum]) -> Result<Vec<Span>, AllocError> {
     let mut spans = Vec::new(alloc);
     for one in found {
@@ -190,17 +190,17 @@ fn spans_of(alloc: Global, found: &[FoundEnum]) -> Result<Vec<Span>, AllocError>
     Ok(spans)
 }
 
-/// Appends the report of the warnings `warned` of the file `source` to `page`: of the first 50, and
-/// the number of the others.
+/// Appends to `page` the report of the first 50 warnings in `warned`, and the number of further
+/// warnings. The warnings are about the file `source`.
 pub fn push_warned(page: &mut Page, source: &Source<'_>, warned: &[Warning])
     ensures { Shows (warnings_texts page.old.is_colored source.now 0 warned.now) page.old page.new }
 {
     push_warnings(page, Part { source, offset: 0 }, warned);
 }
 
-/// Returns the text of the warnings `warned` of the file `source`, in the format of `showing`. If
-/// `is_missing` is set, which means that no enum of the file derives `Logos`, a report has a line
-/// about that; JSON has none.
+/// Returns the text of the warnings `warned` about the file `source`, in the format of `showing`.
+/// `is_missing` is `true` if no enum of the file derives `Logos`. A report then has a line about
+/// the missing enum, but JSON has no such line.
 ///
 /// # Errors
 ///
@@ -223,8 +223,8 @@ pub fn warning_text(
     }
 }
 
-/// Returns the report of the warnings `warned` of the file `source`. If `is_missing` is set, it
-/// ends with a line which states that no enum of the file derives `Logos`.
+/// Returns the report of the warnings `warned` about the file `source`. If `is_missing` is `true`,
+/// the report ends with a line stating that no enum of the file derives `Logos`.
 fn warning_report(
     source: &Source<'_>,
     showing: Showing,
@@ -241,8 +241,8 @@ fn warning_report(
     page.finish()
 }
 
-/// Appends to `page` the line which states that no enum of the file `source` derives `Logos`, if
-/// `is_missing` is set.
+/// Appends to `page` the line stating that no enum of the file `source` derives `Logos`, or nothing
+/// if `is_missing` is `false`.
 fn push_missing(page: &mut Page, source: &Source<'_>, is_missing: bool)
     ensures { Shows (missing_texts source.now is_missing) page.old page.new }
 {
@@ -251,7 +251,7 @@ fn push_missing(page: &mut Page, source: &Source<'_>, is_missing: bool)
     }
 }
 
-/// Appends to `page` the line which states that no enum of the file `source` derives `Logos`.
+/// Appends to `page` the line stating that no enum of the file `source` derives `Logos`.
 fn push_missing_line(page: &mut Page, source: &Source<'_>)
     ensures { Gains (missing_line source.now) page.old page.new }
 {
@@ -260,7 +260,7 @@ fn push_missing_line(page: &mut Page, source: &Source<'_>)
     page.push(" derives `Logos`\n");
 }
 
-/// Returns a line of JSON for each of the first 50 of the warnings `warned` of the file `source`.
+/// Returns a line of JSON for each of the first 50 warnings in `warned` about the file `source`.
 ///
 /// # Errors
 ///
@@ -277,8 +277,8 @@ pub fn warning_lines(
     Ok(lines)
 }
 
-/// Returns the text of the warnings `warned` of the file `source`, which are denied. A report ends
-/// with a line which states that.
+/// Returns the text of the warnings `warned` about the file `source`, which are denied. A report
+/// ends with a line stating that warnings are denied.
 ///
 /// # Errors
 ///
@@ -298,7 +298,7 @@ pub fn denial_text(
     }
 }
 
-/// Returns `report`, followed by a line which states that warnings are denied.
+/// Returns `report`, followed by a line stating that warnings are denied.
 fn denied(report: String) -> Result<String, Memory>
     ensures { IfOk result (λ text. string_bytes text ≡ string_bytes report ++ denied_line) }
 {

@@ -24,7 +24,7 @@ use states::code_of;
 use std::alloc::{AllocError, Global};
 use std::marker::Model;
 
-/// A generator, which makes the code value of a graph without faults, as a whole or node by node.
+/// A generator that makes the code value of a graph without faults, as a whole or node by node.
 #[derive(Drop)]
 pub struct Generator<'g, 's> {
     config: Config,
@@ -32,7 +32,8 @@ pub struct Generator<'g, 's> {
     this: &'g TypeExpr<'s>,
     graph: &'g Graph<'s>,
     error_callback: Option<&'g Callback<'s>>,
-    /// The tables of the nodes that have been made, or after `generate` those of the code.
+    /// The tables of the nodes that have been made so far. After `generate`, the tables of the
+    /// code.
     tables: NodeTables,
 }
 
@@ -66,10 +67,12 @@ impl<'g, 's> Model for Generator<'g, 's> {
 }
 
 impl<'g, 's> Generator<'g, 's> {
-    /// Returns a generator for a graph without faults, of the enum with this name and type. The
-    /// code calls `error_callback`, if there is one, for bytes that no leaf matches. The generator
-    /// has made no node yet. This call does not allocate; the tests and jump tables take their
-    /// memory from `alloc` when nodes are made.
+    /// Returns a generator for a graph without faults. `name` and `this` are the name and the type
+    /// of the enum. The code calls `error_callback`, if there is one, for bytes that no leaf
+    /// matches. The generator has made no node yet.
+    ///
+    /// This call does not allocate. The tests and jump tables take their memory from `alloc` when
+    /// nodes are made.
     pub fn new(
         alloc: Global,
         config: Config,
@@ -96,13 +99,17 @@ impl<'g, 's> Generator<'g, 's> {
         }
     }
 
-    /// Returns the code: from each point of each input it has the result of the graph, and each
-    /// attempt enters at most two states more than there are bytes left. The code has copies of the
-    /// arguments of `new`, and of the kinds and callbacks of the graph's leaves. Its tests and its
-    /// jump tables are numbered by first use, with states ascending and the fast loop before the
-    /// fork; equal tests share a number, and so do equal jump tables. Afterwards the generator's
-    /// tests and jump tables are those of the code, regardless of the nodes that it made before, so
-    /// `render_luts` and `render_jump_tables` return the code's tables.
+    /// Returns the code of the graph. From each point of each input, the code has the result of the
+    /// graph, and each match attempt enters at most two states more than there are bytes left.
+    ///
+    /// The code has copies of the arguments of `new`, and of the kinds and callbacks of the graph's
+    /// leaves. Its tests and jump tables are numbered in the order of their first use, with states
+    /// ascending and the fast loop of a state before its fork. Equal tests share a number, and so
+    /// do equal jump tables.
+    ///
+    /// Afterwards, the generator's tests and jump tables are the tests and jump tables of the code,
+    /// regardless of the nodes that it made before. `render_luts` and `render_jump_tables` then
+    /// return the tables of the code.
     ///
     /// # Errors
     ///
@@ -149,7 +156,7 @@ impl<'g, 's> Generator<'g, 's> {
         }
     }
 
-    /// Returns the header of the code, with copies of the arguments of `new` besides the graph.
+    /// Returns the header of the code, with copies of all arguments of `new` except the graph.
     fn header(&self) -> Result<Header<'s>, AllocError>
         ensures { IfOk result (IsCopy self.now.given) }
     {

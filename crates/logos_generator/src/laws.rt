@@ -1,5 +1,5 @@
-//! Laws of the definitions. The contract of each function is a law. A proof uses a law by calling
-//! its function, which does nothing.
+//! Laws of maximal munch, codes and inputs. The contract of each function is a law. A proof uses a
+//! law by calling its function, which does nothing.
 
 ghost use Rattle.std.specs.Prelude.{ℕ, ◌≤◌, Bool, false, List, length};
 ghost use Rattle.logos_generator.specs.Imports.{IsInput, Rule, Item, Items, AreInOrder, Parts, IsLeftOut, answers_of, GraphsYieldLexers, RunsAreItems, NextIsTheNext, ItemsAreOnce, ItemsGoOver, LexersAgree, RunsAreCut};
@@ -7,15 +7,15 @@ ghost use Rattle.logos_generator.specs.Imports.{IsInput, Rule, Item, Items, AreI
 use logos_code::action::Action;
 use logos_hir::leaf::LeafId;
 
-/// The spans of the items of maximal munch are not empty, in order, and within the input.
+/// The spans of the items of maximal munch are nonempty, in order, and within the input.
 pub fn items_are_in_order<C: Fn(LeafId, &[u8]) -> Action>(callback: &C)
     ensures { (rules : List Rule) (utf8 : Bool) (bytes : List ℕ) (from : ℕ) (items : List Item) →
         from ≤ length bytes → Items rules (answers_of C.Fn callback.now) utf8 bytes from items →
         AreInOrder (length bytes) from items }
 {}
 
-/// The spans of the items of maximal munch, together with those of the matches without an item,
-/// partition the input in order, and none is empty.
+/// The spans of the items of maximal munch and of the matches without an item are nonempty.
+/// Together, they partition the input in order.
 pub fn items_part_the_input<C: Fn(LeafId, &[u8]) -> Action>(callback: &C)
     ensures { (rules : List Rule) (utf8 : Bool) (bytes : List ℕ) (from : ℕ) (items : List Item) →
         from ≤ length bytes → Items rules (answers_of C.Fn callback.now) utf8 bytes from items →
@@ -39,13 +39,13 @@ pub fn next_items_are_the_next<C: Fn(LeafId, &[u8]) -> Action>(callback: &C)
     ensures { NextIsTheNext (answers_of C.Fn callback.now) }
 {}
 
-/// Two codes of the same rules and mode have the same runs.
+/// Two codes with the same rules and mode have the same runs.
 pub fn codes_of_the_same_rules_agree<C: Fn(LeafId, &[u8]) -> Action>(callback: &C)
     ensures { LexersAgree (answers_of C.Fn callback.now) }
 {}
 
-/// If a text is lexed by rules that match only text, each item starts and ends at character
-/// boundaries.
+/// If rules that match only text are applied to a text, each item starts and ends at a character
+/// boundary.
 pub fn items_are_cut_between_characters<C: Fn(LeafId, &[u8]) -> Action>(callback: &C)
     ensures { RunsAreCut (answers_of C.Fn callback.now) }
 {}
@@ -56,8 +56,8 @@ pub fn an_input_has_one_list_of_items<C: Fn(LeafId, &[u8]) -> Action>(callback: 
     ensures { ItemsAreOnce (answers_of C.Fn callback.now) }
 {}
 
-/// Items with a callback are also items with every callback whose possible actions include those of
-/// the first callback.
+/// A list of items with a callback is also a list of items with every callback whose possible
+/// actions include the actions of the first callback.
 pub fn items_go_over<C: Fn(LeafId, &[u8]) -> Action, D: Fn(LeafId, &[u8]) -> Action>(
     callback: &C,
     other: &D,
@@ -65,7 +65,7 @@ pub fn items_go_over<C: Fn(LeafId, &[u8]) -> Action, D: Fn(LeafId, &[u8]) -> Act
     ensures { ItemsGoOver (answers_of C.Fn callback.now) (answers_of D.Fn other.now) }
 {}
 
-/// A text is an input of lexers in both modes.
+/// A text is an input of lexers with and without UTF-8 mode.
 pub fn a_text_is_an_input(text: &str)
     ensures { (utf8 : Bool) → IsInput utf8 text.now }
 {
@@ -73,7 +73,7 @@ pub fn a_text_is_an_input(text: &str)
     let _ = text.as_bytes();
 }
 
-/// Bytes are an input of lexers that are not in UTF-8 mode.
+/// Any bytes are an input of lexers that are not in UTF-8 mode.
 pub fn bytes_are_an_input(bytes: &[u8])
     ensures { IsInput false bytes.now }
 {

@@ -1,5 +1,5 @@
-//! Distinguishes two states of a reduced table by bytes. Called by `Graph::telling` and
-//! `Graph::checks`.
+//! Finds and checks bytes that distinguish two states of a reduced table. Called by
+//! `Graph::telling` and `Graph::checks`.
 
 ghost use Rattle.std.specs.Prelude.{◌≡◌, ◌≢◌, ◌⊎◌, ◌↔◌, ◌<◌, ℕ, IsTrue, IfOk, IfSome, MatchOption, Some, None};
 ghost use Rattle.logos_reduce.specs.Views.{size, to, YieldsEvidence, mark_with_end, mark_after, Distinguishes, IsEvidence, state_after, ArePartedAt};
@@ -22,8 +22,8 @@ fn state_after(table: &Table, s: usize, bytes: &[u8]) -> Option<usize>
     Some(at)
 }
 
-/// Returns the mark of the state `s`, or, if `at_end` is `true`, that of the state to which the end
-/// leads from `s`. Returns `None` if the end leads to no state.
+/// Returns the mark of the state `s`. If `at_end` is `true`, returns the mark of the state to which
+/// the end of the input leads from `s`, or `None` if the end leads to no state.
 fn mark_with_end(table: &Table, s: usize, at_end: bool) -> Option<StateMarks>
     requires { s < size table.now }
     ensures { result ≡ mark_with_end table.now s at_end }
@@ -35,8 +35,8 @@ fn mark_with_end(table: &Table, s: usize, at_end: bool) -> Option<StateMarks>
     Some(table.mark(t))
 }
 
-/// Returns the mark of the state to which `bytes` lead from the state `s`, with the end after them
-/// if `at_end` is `true`. Returns `None` if they lead to no state.
+/// Returns the mark of the state to which `bytes` lead from the state `s`. If `at_end` is `true`,
+/// the end of the input follows `bytes`. Returns `None` if there is no such state.
 fn mark_after(table: &Table, s: usize, bytes: &[u8], at_end: bool) -> Option<StateMarks>
     requires { s < size table.now }
     ensures { result ≡ mark_after table.now s bytes.now at_end }
@@ -52,8 +52,8 @@ fn differ(one: Option<StateMarks>, other: Option<StateMarks>) -> bool
     one != other
 }
 
-/// Returns the targets of the states `s` and `t` on the symbol `k`, or `None` if one of the states
-/// has no target on it.
+/// Returns the targets of the states `s` and `t` on the symbol `k`, or `None` if `s` or `t` has no
+/// target on `k`.
 fn both_targets(table: &Table, s: usize, t: usize, k: usize) -> Option<(usize, usize)>
     requires s_in { s < size table.now }
     requires t_in { t < size table.now }
@@ -65,7 +65,7 @@ fn both_targets(table: &Table, s: usize, t: usize, k: usize) -> Option<(usize, u
     Some((table.target(s, k)?, table.target(t, k)?))
 }
 
-/// Returns the two numbers in ascending order.
+/// Returns the numbers `a` and `b`, which must be different, in ascending order.
 fn ordered(a: usize, b: usize) -> (usize, usize)
     requires { a ≢ b }
     ensures order { result.0 < result.1 }
@@ -74,7 +74,8 @@ fn ordered(a: usize, b: usize) -> (usize, usize)
     if a < b { (a, b) } else { (b, a) }
 }
 
-/// Returns the number of the block that a split made when it separated the states `s` and `t`.
+/// Returns the number of the block that was made by the split that separated the states `s` and
+/// `t`.
 fn parted_at(reduced: &Reduction, s: usize, t: usize) -> usize
     requires evidence { YieldsEvidence reduced.now }
     requires s_in { s < size reduced.now.table }
@@ -92,8 +93,8 @@ fn parted_at(reduced: &Reduction, s: usize, t: usize) -> usize
     }
 }
 
-/// Returns whether `bytes`, with the end after them if `at_end` is `true`, distinguish the states
-/// `s` and `t`. Does not allocate.
+/// Returns whether `bytes`, followed by the end of the input if `at_end` is `true`, distinguish the
+/// states `s` and `t`. Does not allocate.
 pub fn checks(reduced: &Reduction, s: usize, t: usize, bytes: &[u8], at_end: bool) -> bool
     requires s_in { s < size reduced.now.table }
     requires t_in { t < size reduced.now.table }
@@ -104,8 +105,8 @@ pub fn checks(reduced: &Reduction, s: usize, t: usize, bytes: &[u8], at_end: boo
     differ(one, other)
 }
 
-/// Returns bytes that distinguish the different states `s` and `t`, and whether the end of the
-/// input follows these bytes. There are fewer bytes than states.
+/// Finds bytes that distinguish the states `s` and `t`, which must be different. Returns the bytes,
+/// and `true` if the end of the input follows the bytes. There are fewer bytes than states.
 ///
 /// # Errors
 ///

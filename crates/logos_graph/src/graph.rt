@@ -1,4 +1,4 @@
-//! The types of graphs: options, states and their edges. Used by every crate that reads a graph.
+//! The types of graphs: their options, states and edges. Used by every crate that reads a graph.
 
 ghost use Rattle.std.specs.Prelude.{◌≡◌};
 ghost use Rattle.logos_graph.specs.StateEquality.{same_state, same_state_laws};
@@ -52,8 +52,8 @@ pub struct StateType {
 #[derive(Debug, Drop)]
 pub struct StateData {
     pub state_type: StateType,
-    /// The edges on bytes: the bytes that lead to a target, and the target, ascending by its
-    /// number.
+    /// The edges on bytes, in ascending order of their targets. Each edge consists of a class of
+    /// bytes, and the target to which these bytes lead.
     pub normal: Vec<(ByteClass, State)>,
     /// The target of the end of the input, or `None` if the end leads nowhere.
     pub eoi: Option<State>,

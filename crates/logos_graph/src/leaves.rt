@@ -1,4 +1,4 @@
-//! Turns leaves into rules of an automaton. `graph::construction` calls it before it builds the
+//! Turns leaves into rules of an automaton. Called by `graph::construction`, which then builds the
 //! automaton.
 
 ghost use Rattle.std.specs.Prelude.{◌≡◌, ◌^◌, ◌≤◌, ◌↔◌, IsTrue, IfOk};
@@ -10,7 +10,7 @@ use logos_automaton::rule::RuleView;
 use logos_pattern::leaf::{Leaf, VariantKind};
 use std::alloc::{AllocError, Global};
 
-/// Returns whether the trees of all leaves together have a size of at most 1,048,576. Does not
+/// Returns whether the trees of all leaves have a total size of at most 1,048,576. Does not
 /// allocate.
 pub(crate) fn is_size_within(leaves: &[Leaf<'_>]) -> bool
     ensures { IsTrue result ↔ (size_of (rules_of leaves.now) ≤ 2 ^ 20) }
@@ -22,7 +22,7 @@ pub(crate) fn is_size_within(leaves: &[Leaf<'_>]) -> bool
     sum.is_some()
 }
 
-/// Returns the rule of a leaf, which borrows the leaf's tree.
+/// Returns the rule of a leaf. The rule borrows the tree of the leaf.
 fn rule_view<'l>(leaf: &'l Leaf<'_>) -> RuleView<'l>
     ensures { views.rule_of result ≡ rule_of leaf.now }
 {
@@ -34,7 +34,7 @@ fn rule_view<'l>(leaf: &'l Leaf<'_>) -> RuleView<'l>
     }
 }
 
-/// Returns the rules of leaves, in the order of the leaves.
+/// Returns the rules of `leaves`, in the order of the leaves.
 pub(crate) fn rule_views<'l>(
     alloc: Global,
     leaves: &'l [Leaf<'_>],

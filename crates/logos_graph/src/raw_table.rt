@@ -11,7 +11,7 @@ use logos_reduce::rows::{Row, Rows};
 use logos_reduce::table::{StateMarks, Table};
 use std::alloc::{AllocError, Global};
 
-/// Returns the priority of a leaf, or 0 if there is no leaf with this number.
+/// Returns the priority of the leaf with the number `leaf`, or 0 if there is no such leaf.
 fn priority_at(leaves: &[Leaf<'_>], leaf: usize) -> usize
     ensures { result ≡ priority_of (rules_of leaves.now) leaf }
 {
@@ -21,8 +21,8 @@ fn priority_at(leaves: &[Leaf<'_>], leaf: usize) -> usize
     }
 }
 
-/// Returns the leaf with the higher priority of `best` and `leaf`. Returns `best` if their
-/// priorities are equal, and `leaf` if `best` is `None`.
+/// Returns the leaf with the higher priority, `best` or `leaf`. Returns `best` if their priorities
+/// are equal, and `leaf` if `best` is `None`.
 fn best_with(leaves: &[Leaf<'_>], best: Option<usize>, leaf: usize) -> usize
     ensures { result ≡ best_with (rules_of leaves.now) (length leaves.now) best leaf }
 {
@@ -49,8 +49,8 @@ fn first_leaf(leaves: &[Leaf<'_>], listed: &[usize]) -> Option<usize>
     best
 }
 
-/// Returns the late mark of a state that lists the leaves `listed`: the first leaf with the highest
-/// priority, or no leaf if none is listed.
+/// Returns the late mark of a state that lists the leaves `listed`. The mark is the first leaf with
+/// the highest priority, or `None` if no leaf is listed.
 fn raw_mark(leaves: &[Leaf<'_>], listed: &[usize]) -> StateMarks
     ensures { IsRawMark (rules_of leaves.now) (length leaves.now) listed.now result }
 {
@@ -106,9 +106,8 @@ fn raw_rows(alloc: Global, dfa: &Dfa) -> Result<Rows, AllocError>
     Ok(rows)
 }
 
-/// Returns the table of the automaton, in which each state marks the first leaf with the highest
-/// priority among those that it lists, if it lists any. The states keep their numbers, and the
-/// first is the start.
+/// Returns the table of the automaton. Each state that lists leaves marks the first listed leaf
+/// with the highest priority. The states keep their numbers, and the first state is the start.
 pub(crate) fn raw_table(alloc: Global, leaves: &[Leaf<'_>], dfa: &Dfa) -> Result<Table, AllocError>
     requires total { IsTotal (dfa_of dfa.now) }
     requires few { length (dfa_of dfa.now).matches + 1 < 2 ^ 32 }

@@ -9,7 +9,8 @@ use logos_report::{Clues, Helps, Part};
 use logos_token::error::{Errors, Memory, SpannedError};
 use logos_token::token::Span;
 
-/// The source of the helps of this crate, for callers that are generic over `Helps`.
+/// The implementation of `Helps` that adds the helps of this crate, for callers that are generic
+/// over `Helps`.
 #[derive(Clone, Copy)]
 pub struct FaultHelps;
 
@@ -19,8 +20,9 @@ impl Helps for FaultHelps {
     }
 }
 
-/// Appends to the helps of `clues` the help for each of the faults `errors` of a part of a file, in
-/// order: `None` for a fault without a help. A report shows each help under its fault.
+/// Appends the help for each fault in `errors` to the helps of `clues`, in order. Appends `None`
+/// for a fault without a help. `part` is the part of a file that has the faults. A report shows
+/// each help under its fault.
 ///
 /// # Errors
 ///
@@ -31,8 +33,8 @@ pub fn add_helps(part: Part<'_, '_>, errors: &Errors, clues: &mut Clues) -> Resu
     add_all(part, errors.list(), &mut clues.helps)
 }
 
-/// Appends the help for each of `faults` to `helps`, in order: `None` for a fault without a help.
-/// `part` is the part of the file that has the faults.
+/// Appends the help for each of `faults` to `helps`, in order. Appends `None` for a fault without a
+/// help. `part` is the part of a file that has the faults.
 fn add_all(
     part: Part<'_, '_>,
     faults: &[SpannedError],
@@ -44,8 +46,8 @@ fn add_all(
     Ok(())
 }
 
-/// Returns the text of a part of a file at `span`, whose offsets are in the part, and the text
-/// after it. Each is empty if the file does not have it.
+/// Returns the text of a file at `span`, and the text after it. The offsets of `span` are relative
+/// to `part`. Each text is empty if the file has no such offsets.
 fn sight_at<'t>(part: Part<'_, 't>, span: Span) -> Sight<'t> {
     Sight {
         text: part.text_at(span),

@@ -1,4 +1,4 @@
-//! Chooses the help for a fault by its code. `docs/FAULTS.md` has the same sentences, and
+//! Chooses the help for a fault by its code. `docs/FAULTS.md` repeats the helps, and
 //! `tests/lints/faults.py` compares them. Used by `adding`.
 
 ghost use Rattle.std.specs.Prelude.{option_map};
@@ -19,8 +19,8 @@ const DOUBLE: &str = "write it in double quotes, as in `\"..\"`";
 
 const RENAME: &str = "rename it: a name contains only ASCII letters, digits and `_`";
 
-/// Returns the help for `fault`, which depends on its detail, its code and `sight`, the text at its
-/// span. Returns `None` for a fault without a help, which is one with the code `Previous`.
+/// Returns the help for `fault`, or `None` for a fault with the code `Previous`, which has no help.
+/// The help depends on the detail and the code of the fault, and on `sight`, the text at its span.
 pub fn help_for(fault: &SpannedError, sight: Sight<'_>) -> Option<&'static str>
     ensures { IsHelp fault.now.detail (option_map (λ help. help.now) result) }
 {
@@ -33,8 +33,8 @@ pub fn help_for(fault: &SpannedError, sight: Sight<'_>) -> Option<&'static str>
     }
 }
 
-/// Returns the help for a fault with the code `code`, which depends on `sight`, the text at its
-/// span, or `None` for the code `Previous`.
+/// Returns the help for a fault with the code `code`, or `None` for the code `Previous`. The help
+/// depends on `sight`, the text at the span of the fault.
 fn help_by_code(code: FaultCode, sight: Sight<'_>) -> Option<&'static str> {
     let help = match code {
         FaultCode::Previous => return None,
@@ -52,8 +52,8 @@ fn help_by_code(code: FaultCode, sight: Sight<'_>) -> Option<&'static str> {
     Some(help)
 }
 
-/// Returns the help for a source that cannot be read into tokens, for the reason `kind`. It depends
-/// on `sight`, the text that is not a token.
+/// Returns the help for a source that cannot be read into tokens for the reason `kind`. The help
+/// depends on `sight`, the text that is not a token.
 fn help_for_lexical(kind: LexicalKind, sight: Sight<'_>) -> &'static str {
     if sight.text.starts_with('\'') {
         return DOUBLE;
@@ -66,7 +66,7 @@ fn help_for_lexical(kind: LexicalKind, sight: Sight<'_>) -> &'static str {
     }
 }
 
-/// Returns the help for a literal with an escape that Rust does not have.
+/// Returns the help for a literal with an escape that Rust does not support.
 fn help_for_escapes(sight: Sight<'_>) -> &'static str {
     if sight.text.contains("\\x") {
         "a string has `\\x00` to `\\x7F` and `\\u{..}`: write a byte string for other bytes"
@@ -75,7 +75,7 @@ fn help_for_escapes(sight: Sight<'_>) -> &'static str {
     }
 }
 
-/// Returns the help for a fault with the code `code`, whatever the text at its span is.
+/// Returns the help for a fault with the code `code`, regardless of the text at its span.
 fn help_for_code(code: FaultCode) -> &'static str {
     match code {
         FaultCode::NotAnEnum => "derive `Logos` only for an enum",
@@ -91,9 +91,8 @@ fn help_for_code(code: FaultCode) -> &'static str {
     }
 }
 
-/// Returns the help for a source that exceeds a limit: the number, the unit that it counts, and a
-/// way to stay within it. For a code that is not about a limit, returns the result of
-/// `help_for_type`.
+/// Returns the help for a source that exceeds a limit: the limit, its unit, and a way to stay
+/// within it. For any other code, returns the result of `help_for_type`.
 fn help_for_limit(code: FaultCode) -> &'static str {
     match code {
         FaultCode::LimitSource => "a source has at most 16,777,216 bytes: split the enum",
@@ -179,8 +178,8 @@ fn help_for_argument(code: FaultCode) -> &'static str {
     }
 }
 
-/// Returns the help for a fault in a flag, a callback or a subpattern, or of the whole lexer. For
-/// any other code, returns the help for a pattern that matches bytes which are not UTF-8.
+/// Returns the help for a fault in a flag, a callback, a subpattern or the whole lexer. For any
+/// other code, returns the help for a pattern that matches bytes that are not UTF-8.
 fn help_for_callback(code: FaultCode) -> &'static str {
     match code {
         FaultCode::IgnoreForm => "write `ignore(case)`",

@@ -1,5 +1,5 @@
-//! Chooses the help for a fault: a sentence for each code, each kind of pattern fault, and the
-//! tokens at the fault. Used by the programs and the derive macro.
+//! Chooses the help for a fault. The help is a sentence that depends on the code, on the kind of a
+//! pattern fault, and on the text at the fault. Used by the programs and the derive macro.
 
 #![tactic(auto)]
 

@@ -1,5 +1,5 @@
-//! Chooses the help for a fault in a pattern, by its kind and by the bytes at it. `docs/FAULTS.md`
-//! has the same sentences, and `tests/lints/faults.py` compares them. Used by `codes`.
+//! Chooses the help for a fault in a pattern, by its kind and by the bytes at the fault.
+//! `docs/FAULTS.md` repeats the helps, and `tests/lints/faults.py` compares them. Used by `codes`.
 
 ghost use Rattle.std.specs.Prelude.{◌≡◌};
 ghost use Rattle.logos_help.specs.Patterns.{boundary_help, escape_help, escapes, flag_help, group_help, is_digit, looks_ahead, looks_back, opens_with, pattern_help, refers_back};
@@ -58,22 +58,22 @@ const WORD_BOUNDARY_FORM: &str = "write `(?-u:\\b)`, with the next character aft
 
 const UNCLOSED: &str = "close it, or write `\\(`, `\\[` or `\\{` for the character";
 
-/// Returns whether the first bytes `front` are `(?` and `third`.
+/// Returns whether the bytes `front` begin with `(?` and the byte `third`.
 fn opens_with(front: PatternFront, third: u8) -> bool
     ensures { result ≡ opens_with front third }
 {
     (front.first == b'(') & (front.second == b'?') & (front.third == third)
 }
 
-/// Returns whether the first bytes `front` are a backslash and `second`.
+/// Returns whether the bytes `front` begin with a backslash and the byte `second`.
 fn escapes(front: PatternFront, second: u8) -> bool
     ensures { result ≡ escapes front second }
 {
     (front.first == b'\\') & (front.second == second)
 }
 
-/// Returns the help for a group that begins with an unknown flag. The first bytes of the group
-/// decide.
+/// Returns the help for a group that begins with an unknown flag. The help depends on the first
+/// bytes of the group.
 fn help_for_flag(front: PatternFront) -> &'static str
     ensures { result.now ≡ flag_help front }
 {
@@ -88,7 +88,7 @@ fn help_for_flag(front: PatternFront) -> &'static str
 
 const REFERENCE: &str = "repeat the pattern of the group: there are no backreferences";
 
-/// Returns the help for an unknown escape. The first bytes of the escape decide.
+/// Returns the help for an unknown escape. The help depends on the first bytes of the escape.
 fn help_for_escape(front: PatternFront) -> &'static str
     ensures { result.now ≡ escape_help front }
 {
@@ -107,8 +107,8 @@ fn help_for_escape(front: PatternFront) -> &'static str
     }
 }
 
-/// Returns whether an escape is like one that refers back to a group: whether a digit other than
-/// `0` follows the backslash, but not three digits, which are the number of a character.
+/// Returns whether an escape looks like a backreference: a backslash and a digit other than `0`.
+/// Three digits do not look like one, because they are the number of a character.
 fn refers_back(front: PatternFront) -> bool
     ensures { result ≡ refers_back front }
 {
@@ -123,8 +123,8 @@ fn is_digit(byte: u8) -> bool
     (b'/' < byte) & (byte < b':')
 }
 
-/// Returns the help for a word boundary at the byte offset `at` in the pattern. At the beginning of
-/// a pattern the boundary is not needed.
+/// Returns the help for a word boundary at the byte offset `at` in the pattern. The boundary is not
+/// needed at the beginning of the pattern.
 fn help_for_boundary(at: usize) -> &'static str
     ensures { result.now ≡ boundary_help at }
 {
@@ -135,8 +135,8 @@ fn help_for_boundary(at: usize) -> &'static str
     }
 }
 
-/// Returns the help for a group that is neither plain nor named. The first bytes of the group
-/// decide.
+/// Returns the help for a group that is neither plain nor named. The help depends on the first
+/// bytes of the group.
 fn help_for_group(front: PatternFront) -> &'static str
     ensures { result.now ≡ group_help front }
 {
@@ -161,8 +161,8 @@ fn looks_back(front: PatternFront) -> bool
     opens_with(front, b'<') & ((front.fourth == b'=') | (front.fourth == b'!'))
 }
 
-/// Returns the help for a pattern with a greedy dot. The text of the pattern decides. No pattern in
-/// a help has a greedy dot, unless it also has `allow_greedy`.
+/// Returns the help for a pattern with a greedy dot. The help depends on the text of the pattern.
+/// No help contains a pattern with a greedy dot, unless it also contains `allow_greedy`.
 pub(crate) fn help_for_dot(sight: Sight<'_>) -> &'static str {
     let pattern = between_quotes(sight.text);
     if is_block_comment(pattern) {
@@ -183,7 +183,9 @@ fn is_block_comment(pattern: &str) -> bool {
     begins & pattern.contains('*') & pattern.ends_with('/')
 }
 
-/// Returns whether a pattern matches a text, and after it any characters up to the end of the line.
+/// Returns whether a pattern probably matches a text up to the end of the line: whether it ends
+/// with a greedy dot after a nonempty beginning, perhaps with a line end after the dot, and does
+/// not contain `(?s`.
 fn is_to_line_end(pattern: &str) -> bool {
     if pattern.contains("(?s") {
         return false;
@@ -203,8 +205,8 @@ fn without_line_end(pattern: &str) -> &str {
     }
 }
 
-/// Returns a pattern without the greedy dot at its end, which is a repetition of any character, or
-/// `None` if it does not end with one.
+/// Returns a pattern without the greedy dot at its end, or `None` if it does not end with a greedy
+/// dot. A greedy dot is a repetition of any character except LF, by `*` or `+`.
 fn without_dot(pattern: &str) -> Option<&str> {
     let Some(front) = pattern.strip_suffix("*") else {
         return match pattern.strip_suffix("+") {
@@ -215,8 +217,8 @@ fn without_dot(pattern: &str) -> Option<&str> {
     without_any(front)
 }
 
-/// Returns a pattern without the `.`, or the class of all characters except LF, at its end. Returns
-/// `None` if it ends with neither.
+/// Returns a pattern without the final `.`, or without the final class of all characters except LF.
+/// Returns `None` if the pattern ends with neither.
 fn without_any(pattern: &str) -> Option<&str> {
     if let Some(front) = pattern.strip_suffix(".") {
         return Some(front);

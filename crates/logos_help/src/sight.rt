@@ -1,7 +1,7 @@
-//! The text of a source at the span of a fault, and after it. Used by `codes`, `patterns` and
-//! `sights`.
+//! The text of a source at the span of a fault, and the text after the span. Used by `codes`,
+//! `patterns` and `sights`.
 
-/// The text of a source at the span of a fault, and the text after it.
+/// The text of a source at the span of a fault, and the text after the span.
 #[derive(Clone, Copy, Debug)]
 pub struct Sight<'t> {
     /// The text that the span covers.
@@ -10,7 +10,7 @@ pub struct Sight<'t> {
     pub after: &'t str,
 }
 
-/// Returns the text of a literal between its first and its last quote, with its escapes as they are
+/// Returns the text of a literal between its first and its last quote. Escapes are left as they are
 /// spelled. Returns a text with fewer than two quotes unchanged.
 pub(crate) fn between_quotes(literal: &str) -> &str {
     let Some(parts) = literal.split_once('"') else {

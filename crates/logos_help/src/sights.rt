@@ -1,10 +1,10 @@
-//! Chooses the help for a fault by the text at its span. `docs/FAULTS.md` has the same sentences,
-//! and `tests/lints/faults.py` compares them. Used by `codes`.
+//! Chooses the help for a fault by the text at its span. `docs/FAULTS.md` repeats the helps, and
+//! `tests/lints/faults.py` compares them. Used by `codes`.
 
 use crate::sight::{Sight, between_quotes};
 
-/// Returns the help for an argument of `logos(..)` that is not an option. The text of the argument
-/// decides.
+/// Returns the help for an argument of `logos(..)` that is not an option. The help depends on the
+/// text of the argument.
 pub(crate) fn help_for_nested(sight: Sight<'_>) -> &'static str {
     let text = sight.text;
     if text.is_empty() | text.starts_with(',') {
@@ -30,7 +30,7 @@ fn has_colon(text: &str) -> bool {
     text.contains(':') & !text.contains("::") & !text.starts_with("skip")
 }
 
-/// Returns the help for tokens that are not a literal, though a literal is required.
+/// Returns the help for tokens that are not a literal where a literal is required.
 pub(crate) fn help_for_literal(sight: Sight<'_>) -> &'static str {
     if sight.text.contains("\" | ") {
         "write an attribute for each pattern"
@@ -39,7 +39,8 @@ pub(crate) fn help_for_literal(sight: Sight<'_>) -> &'static str {
     }
 }
 
-/// Returns the help for an unknown argument of a pattern. The character after its name decides.
+/// Returns the help for an unknown argument of a pattern. The help depends on the character after
+/// the argument's name.
 pub(crate) fn help_for_name(sight: Sight<'_>) -> &'static str {
     if sight.after.starts_with('(') {
         "name a function without calling it, as in `callback = parse`"
@@ -48,7 +49,7 @@ pub(crate) fn help_for_name(sight: Sight<'_>) -> &'static str {
     }
 }
 
-/// Returns the help for an unknown option. Its name decides.
+/// Returns the help for an unknown option. The help depends on the option's name.
 pub(crate) fn help_for_unknown(sight: Sight<'_>) -> &'static str {
     if is_argument(sight.text) {
         "write it in the parentheses of `skip(\"..\", ..)`"
@@ -57,13 +58,13 @@ pub(crate) fn help_for_unknown(sight: Sight<'_>) -> &'static str {
     }
 }
 
-/// Returns whether a name is that of an argument of a pattern.
+/// Returns whether `name` is the name of an argument of a pattern.
 fn is_argument(name: &str) -> bool {
     let is_value = (name == "priority") | (name == "callback") | (name == "allow_greedy");
     is_value | (name == "ignore")
 }
 
-/// Returns the help for an argument that must have a name, but has none.
+/// Returns the help for an argument without a name where a name is required.
 pub(crate) fn help_for_named(sight: Sight<'_>) -> &'static str {
     let text = sight.text;
     if text.contains('>') {
@@ -75,8 +76,8 @@ pub(crate) fn help_for_named(sight: Sight<'_>) -> &'static str {
     }
 }
 
-/// Returns whether a text begins with the parameters of a closure between two bars, so that no
-/// comma has cut them in two.
+/// Returns whether a text begins with a bar and contains a second bar, so that no comma has cut the
+/// parameters of a closure in two.
 fn has_parameters(text: &str) -> bool {
     match text.strip_prefix("|") {
         Some(rest) => rest.contains('|'),
@@ -96,7 +97,7 @@ pub(crate) fn help_for_closure(sight: Sight<'_>) -> &'static str {
     }
 }
 
-/// Returns the help for a closure without a body. It depends on whether a comma has ended the
+/// Returns the help for a closure without a body. The help depends on whether a comma has ended the
 /// parameters.
 pub(crate) fn help_for_body(sight: Sight<'_>) -> &'static str {
     if sight.text.ends_with('|') {
@@ -106,7 +107,8 @@ pub(crate) fn help_for_body(sight: Sight<'_>) -> &'static str {
     }
 }
 
-/// Returns the help for a pattern that matches the empty text. The text of the pattern decides.
+/// Returns the help for a pattern that matches the empty text. The help depends on the text of the
+/// pattern.
 pub(crate) fn help_for_empty(sight: Sight<'_>) -> &'static str {
     let pattern = between_quotes(sight.text);
     if pattern.is_empty() {

@@ -1,5 +1,5 @@
-//! Builders of trees that simplify as they build. The simplifier and `logos_syntax` call them for
-//! each node.
+//! Builds trees and simplifies them at the same time. Called by the simplifier and `logos_syntax`
+//! for each node.
 
 ghost use Rattle.std.specs.Prelude.{◌≡◌, false, map, ◌++◌, Option, Some, IfOk, OnOk};
 ghost use Rattle.logos_hir.specs.Views.{look, capture, tree_of, set_of, literal_of, one_char_of, one_byte_of, is_byteless, is_most, cut, times, repetition_of, parts_of, in_a_row, part_text, add_text, add_part, add_parts, is_literal_tree, are_apart};
@@ -11,7 +11,7 @@ use crate::sets::RangeSet;
 pub use branches::alternation;
 use std::alloc::{AllocError, Global};
 
-/// Returns the tree that matches `bytes` in order. No bytes make `Empty`.
+/// Returns the tree that matches `bytes` in order, or `Hir::Empty` if `bytes` is empty.
 pub fn literal(bytes: Vec<u8>) -> Hir
     ensures { tree_of result ≡ literal_of bytes.items }
 {
@@ -39,7 +39,7 @@ pub fn capture(alloc: Global, body: Hir) -> Result<Hir, AllocError>
     Ok(Hir::Capture(Box::new(alloc, body)?))
 }
 
-/// Returns the class of the characters of `set`. A set of one character makes a literal.
+/// Returns the class of the characters in `set`, or a literal if `set` has exactly one character.
 ///
 /// # Errors
 ///
@@ -57,8 +57,8 @@ pub fn char_class(alloc: Global, set: RangeSet) -> Result<Hir, AllocError>
     }
 }
 
-/// Returns the class of the bytes of `set`, without members above U+00FF. A set of one byte makes a
-/// literal.
+/// Returns the class of the bytes in `set`, or a literal if `set` contains exactly one byte.
+/// Members above U+00FF are ignored.
 ///
 /// # Errors
 ///
@@ -73,7 +73,7 @@ pub fn byte_class(alloc: Global, set: RangeSet) -> Result<Hir, AllocError>
     }
 }
 
-/// Returns whether the tree has neither a literal nor a class, so that each of its matches is
+/// Returns whether a tree contains neither a literal nor a class. All matches of such a tree are
 /// empty.
 pub fn is_byteless(hir: &Hir) -> bool
     ensures { result ≡ is_byteless (tree_of hir.now) }
@@ -93,14 +93,14 @@ pub fn is_byteless(hir: &Hir) -> bool
     }
 }
 
-/// Returns whether `max` is the greatest count `n`.
+/// Returns whether `max` is `Some(n)`.
 fn is_most(n: u32, max: Option<u32>) -> bool
     ensures { result ≡ is_most n max }
 {
     max == Some(n)
 }
 
-/// Returns the greatest count `max`, limited to at most 1. `None` is no limit, and makes 1.
+/// Returns the minimum of `max` and 1, or 1 if `max` is `None`.
 fn cut(max: Option<u32>) -> u32
     ensures { Some result ≡ cut max }
 {
@@ -110,7 +110,7 @@ fn cut(max: Option<u32>) -> u32
     }
 }
 
-/// Returns a repetition of `body`. A repetition of exactly one time is the body itself.
+/// Returns a repetition of `body`, or `body` itself if it is repeated exactly once.
 fn times(
     alloc: Global,
     min: u32,
@@ -131,9 +131,9 @@ fn times(
     })
 }
 
-/// Returns a repetition of `body` in its simplest form. A repetition of at most zero times is
-/// `Empty`. If the body matches no byte, both counts are limited to at most 1. A repetition of
-/// exactly one time is the body itself.
+/// Returns the simplest form of a repetition of `body`. Returns `Hir::Empty` if `max` is 0. If
+/// `body` contains neither a literal nor a class, both counts are limited to at most 1. Returns
+/// `body` itself if both counts are then 1.
 ///
 /// # Errors
 ///
@@ -174,7 +174,7 @@ fn push_after(parts: &mut Vec<Hir>, last: Hir, bytes: Vec<u8>) -> Result<(), All
     }
 }
 
-/// Appends a literal of `bytes` to `parts`. A literal at the end of `parts` and the new one become
+/// Appends a literal of `bytes` to `parts`. If `parts` ends with a literal, the two literals become
 /// one.
 fn push_literal(parts: &mut Vec<Hir>, bytes: Vec<u8>) -> Result<(), AllocError>
     ensures { OnOk result (map tree_of parts.new.items ≡
@@ -243,8 +243,8 @@ fn push_all(parts: &mut Vec<Hir>, inner: Vec<Hir>) -> Result<(), AllocError>
     push_parts(parts, inner)
 }
 
-/// Appends to `parts` the parts that the tree `part` adds to a concatenation: none for `Empty`, the
-/// parts of a concatenation, or the tree itself.
+/// Appends the parts of the tree `part` to `parts`: no parts for `Hir::Empty`, the parts of a
+/// concatenation, and otherwise the tree itself. Neighboring literals become one.
 pub(crate) fn push_flat(parts: &mut Vec<Hir>, part: Hir) -> Result<(), AllocError>
     ensures { OnOk result (map tree_of parts.new.items ≡
         add_parts (map tree_of parts.old.items) (parts_of (tree_of part))) }
@@ -256,8 +256,8 @@ pub(crate) fn push_flat(parts: &mut Vec<Hir>, part: Hir) -> Result<(), AllocErro
     }
 }
 
-/// Returns a concatenation of `parts`, unchanged. A single part is returned unchanged, and no parts
-/// make `Empty`.
+/// Returns the concatenation of `parts`. Returns a single part unchanged, and `Hir::Empty` if
+/// `parts` is empty.
 pub(crate) fn in_a_row(mut parts: Vec<Hir>) -> Hir
     ensures { tree_of result ≡ in_a_row (map tree_of parts.items) }
 {

@@ -1,4 +1,5 @@
-//! Closes sets under a change of case. `logos_syntax` calls it where letters match in both cases.
+//! Closes sets of characters under changes of case. Called by `logos_syntax` where a pattern
+//! ignores case.
 
 ghost use Rattle.std.specs.Prelude.{◌≡◌, ℕ, ◌+◌, ◌<◌, ◌≤◌, ◌^◌, ◌||◌, length, IfOk, OnOk};
 ghost use Rattle.logos_hir.specs.Views.{IsNonDecreasingBy, fold_pairs, in_range, in_ranges, fold_case, fold_ascii, Adds, in_values, in_image, shift, pairs, set_of};
@@ -20,8 +21,8 @@ const SMALL_A: u32 = 97;
 /// The last small letter of ASCII.
 const SMALL_Z: u32 = 122;
 
-/// Returns the pairs of `table` whose first number is in `range`. The table is sorted by first
-/// numbers.
+/// Returns the pairs of `table` whose first number is in `range`. The table must be sorted by the
+/// first numbers of its pairs.
 fn within(table: &[(u32, u32)], range: Range) -> &[(u32, u32)]
     requires { IsNonDecreasingBy (λ p. p.0) table.now }
     ensures { (c : ℕ) → in_values result.now c ≡
@@ -44,8 +45,8 @@ fn push_values(out: &mut Vec<Range>, table: &[(u32, u32)]) -> Result<(), AllocEr
     Ok(())
 }
 
-/// Appends to `out` the other characters that have the same simple folding as a character in
-/// `ranges`.
+/// Appends to `out`, for each character in `ranges`, the other characters with an equal simple case
+/// folding.
 fn push_folds(out: &mut Vec<Range>, ranges: &[Range]) -> Result<(), AllocError>
     ensures { OnOk result (Adds (pairs out.old.items) (pairs out.new.items)
         (in_image fold_pairs (in_ranges (pairs ranges.now)))) }
@@ -70,8 +71,8 @@ pub fn fold_case(alloc: Global, set: &RangeSet) -> Result<RangeSet, AllocError>
     RangeSet::from_ranges(alloc, &ranges)
 }
 
-/// Appends to `out` the numbers of `range` that are at least `first` and at most `last`, shifted so
-/// that `first` becomes `to`. Appends nothing if there are none.
+/// Appends to `out` the numbers of `range` from `first` to `last`, both included, shifted so that
+/// `first` becomes `to`. Appends nothing if there are no such numbers.
 fn push_shift(
     out: &mut Vec<Range>,
     range: Range,
@@ -110,7 +111,7 @@ fn push_cases(out: &mut Vec<Range>, ranges: &[Range]) -> Result<(), AllocError>
     Ok(())
 }
 
-/// Returns the set with both cases of each ASCII letter in it.
+/// Returns `set` with the other case of each of its ASCII letters added.
 ///
 /// # Errors
 ///

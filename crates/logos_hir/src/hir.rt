@@ -1,4 +1,4 @@
-//! The tree of a pattern. The names are those of regex-syntax. `builder` makes trees, and
+//! The tree of a pattern, with names from regex-syntax. `builder` builds trees, and
 //! `logos_positions` and `logos_automaton` read them.
 
 ghost use Rattle.std.specs.Prelude.{◌≡◌};
@@ -40,12 +40,12 @@ impl Range {
     }
 }
 
-/// A class: a set of bytes or of characters, of which it matches one.
+/// A set of bytes or of characters. A class matches one member of the set.
 #[derive(Debug, Drop)]
 pub enum Class {
-    /// One byte of these ranges.
+    /// One byte in these ranges.
     Bytes(Vec<Range>),
-    /// The UTF-8 of one character of these ranges.
+    /// The UTF-8 of one character in these ranges.
     Characters(Vec<Range>),
 }
 
@@ -61,7 +61,7 @@ pub enum Hir {
     /// The empty string at a point of the input at which the look-around assertion holds.
     Look(Look),
     /// The body `sub` at least `min` times, and at most `max` times if `max` is not `None`. More
-    /// repetitions are preferred if it is `greedy`, and fewer otherwise.
+    /// repetitions are preferred if `greedy` is `true`, and fewer otherwise.
     Repetition {
         min: u32,
         max: Option<u32>,

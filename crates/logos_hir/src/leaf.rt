@@ -1,4 +1,5 @@
-//! The numbers that identify leaves. Automata, graphs, codes and lexers refer to leaves by them.
+//! The numbers that identify leaves. Automata, graphs, codes and lexers refer to leaves by these
+//! numbers.
 
 /// The number of a leaf.
 #[derive(Clone, Copy, Debug, PartialEq, Eq)]

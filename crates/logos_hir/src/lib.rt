@@ -1,6 +1,6 @@
-//! Trees of patterns: their nodes, their builders, their measures, and the sets of characters and
-//! of bytes in them. `logos_syntax` builds trees, and `logos_automaton` and `logos_positions` read
-//! them.
+//! The trees of patterns: their nodes, their builders, their measures, and the sets of characters
+//! and bytes that they contain. `logos_syntax` builds trees, and `logos_automaton` and
+//! `logos_positions` read them.
 
 #![tactic(auto)]
 

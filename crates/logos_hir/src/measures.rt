@@ -1,5 +1,5 @@
-//! Measures of trees, such as the default priority of a leaf. `logos_pattern` calls them after it
-//! has read a pattern. None of them allocates.
+//! Computes measures of trees, such as the default priority of a leaf, without allocating memory.
+//! Called by `logos_pattern` after it has read a pattern.
 
 ghost use Rattle.std.specs.Prelude.{◌≡◌, ℕ, ◌+◌, ◌*◌, min, nat_lt, length, map};
 ghost use Rattle.logos_hir.specs.Views.{list_all, chars, is_utf8, pointwise, trees, pairs, tree_of, class_tree, value, sum_of_values, least_value, text_size, fitted, is_same, is_text, all_text, is_all, is_dot, has_greedy_dot, some_greedy_dot};
@@ -7,7 +7,7 @@ ghost use Rattle.logos_hir.specs.Views.{list_all, chars, is_utf8, pointwise, tre
 use crate::hir::{Class, Hir, Range};
 use crate::sets::LAST_CHAR;
 
-/// The characters below this one are ASCII.
+/// The first number after the ASCII characters.
 const ASCII: u32 = 128;
 
 /// Returns the number of characters of a text.
@@ -17,7 +17,7 @@ fn char_count(text: &str) -> usize
     text.chars().count()
 }
 
-/// Returns the number of characters if the bytes are UTF-8, otherwise the number of bytes.
+/// Returns the number of characters of `bytes` if they are UTF-8, otherwise the number of bytes.
 fn text_size(bytes: &[u8]) -> usize
     ensures { result ≡ text_size bytes.now }
 {
@@ -29,7 +29,8 @@ fn text_size(bytes: &[u8]) -> usize
 
 // In the following functions `None` is a number that does not fit `usize`.
 
-/// Returns `count` times `value`: 0 if `count` is 0, even for a value that does not fit.
+/// Returns the product of `count` and `value`, or `None` if it does not fit `usize`. The product
+/// with 0 is 0, even if `value` is `None`.
 fn times(count: u32, value: Option<usize>) -> Option<usize>
     ensures { (n : ℕ) → value ≡ fitted n → result ≡ fitted (count * n) }
 {
@@ -39,7 +40,7 @@ fn times(count: u32, value: Option<usize>) -> Option<usize>
     (count as usize).checked_mul(value?)
 }
 
-/// Returns the sum of two values.
+/// Returns the sum of two values, or `None` if it does not fit `usize`.
 fn plus(a: Option<usize>, b: Option<usize>) -> Option<usize>
     ensures { (m n : ℕ) → a ≡ fitted m → b ≡ fitted n → result ≡ fitted (m + n) }
 {
@@ -102,8 +103,8 @@ fn least_priority(branches: &[Hir]) -> Option<usize>
     best
 }
 
-/// Returns whether each literal of a tree is UTF-8 and each of its classes of bytes contains only
-/// ASCII.
+/// Returns whether each literal of a tree is UTF-8, and each of its classes of bytes contains only
+/// ASCII bytes.
 pub fn is_utf8(hir: &Hir) -> bool
     ensures { result ≡ is_text (tree_of hir.now) }
 {
@@ -145,15 +146,15 @@ fn are_ascii(ranges: &[Range]) -> bool
     true
 }
 
-/// Returns whether the ranges are equal.
+/// Returns whether two lists of ranges are equal.
 fn same(a: &[Range], b: &[Range]) -> bool
     ensures { result ≡ pointwise is_same (pairs a.now) (pairs b.now) }
 {
     a == b
 }
 
-/// Returns whether the ranges contain exactly the numbers from 0 to `last`, these without LF, or
-/// these without CR and LF.
+/// Returns whether the ranges are the canonical ranges of all numbers from 0 to `last`, of all but
+/// LF, or of all but CR and LF.
 fn is_all(last: u32, ranges: &[Range]) -> bool
     ensures { result ≡ is_all last (pairs ranges.now) }
 {
@@ -174,9 +175,9 @@ fn is_dot(hir: &Hir) -> bool
     }
 }
 
-/// Returns whether a greedy repetition without an upper bound repeats a dot: a class of all
-/// characters or of all bytes, of all but LF, or of all but CR and LF. Searches captures,
-/// concatenations and alternations, but not the body of a repetition.
+/// Returns whether a tree contains a greedy repetition of a dot without an upper bound. A dot is a
+/// class of all characters or of all bytes, of all but LF, or of all but CR and LF. Searches
+/// captures, concatenations and alternations, but not the bodies of repetitions.
 pub fn check_for_greedy_all(hir: &Hir) -> bool
     ensures { result ≡ has_greedy_dot (tree_of hir.now) }
 {

@@ -1,4 +1,4 @@
-//! Sets of characters that a pattern names, as `\p{..}`, `[:name:]` and `\d` do.
+//! Sets of characters that patterns denote by names, such as `\p{..}`, `[:name:]` and `\d`.
 //! `logos_pattern_tokens` and `logos_syntax` look up sets in this module.
 
 ghost use Rattle.std.specs.Prelude.{◌≡◌, ℕ, Bool, IfOk, bytes_eq};
@@ -10,7 +10,7 @@ use std::alloc::{AllocError, Global};
 use unicode::perl;
 use unicode::sets::{self, Set};
 
-/// A class of ASCII characters: one of `[:alnum:]` to `[:xdigit:]`.
+/// A named class of ASCII characters, from `[:alnum:]` to `[:xdigit:]`.
 #[derive(Clone, Copy)]
 pub enum AsciiKind {
     Alnum,
@@ -76,7 +76,7 @@ fn spells(name: &[char], word: &[u8]) -> bool
 }
 
 impl AsciiKind {
-    /// Returns the class that `name` denotes in `[:name:]`, or `None` if no class has this name.
+    /// Returns the class that `name` denotes in `[:name:]`, or `None` if there is no such class.
     pub fn from_name(name: &[char]) -> Option<AsciiKind>
         ensures { result ≡ ascii_named name.now }
     {
@@ -123,7 +123,7 @@ pub fn ascii_set(alloc: Global, kind: AsciiKind) -> Result<RangeSet, AllocError>
     RangeSet::from_ranges(alloc, &ranges_of(alloc, ascii_runs(kind))?)
 }
 
-/// Returns the ranges with the first and the last members in `runs`.
+/// Returns a range for each pair of a first and a last member in `runs`.
 fn ranges_of(alloc: Global, runs: &[(u32, u32)]) -> Result<Vec<Range>, AllocError>
     ensures { IfOk result (λ v. pairs v.items ≡ runs.now) }
 {
@@ -143,8 +143,8 @@ fn from_runs(alloc: Global, runs: &[(u32, u32)]) -> Result<RangeSet, AllocError>
     RangeSet::from_ranges(alloc, &ranges_of(alloc, runs)?)
 }
 
-/// Returns the members of `\d`, `\s` or `\w`: Unicode characters, or only ASCII bytes if `unicode`
-/// is `false`.
+/// Returns the members of `\d`, `\s` or `\w`: Unicode characters if `unicode` is `true`, and only
+/// ASCII characters otherwise.
 ///
 /// # Errors
 ///
@@ -162,8 +162,8 @@ pub fn perl_set(alloc: Global, kind: PerlKind, unicode: bool) -> Result<RangeSet
     }
 }
 
-/// Returns the set of the property with this name, or `None` if no property has the name. The name
-/// is normalized by `unicode::sets::normalize` before the search.
+/// Returns the set of the property with the name `name`, or `None` if there is no such property.
+/// `unicode::sets::normalize` normalizes the name before the search.
 ///
 /// # Errors
 ///
@@ -175,8 +175,8 @@ pub fn property_named(alloc: Global, name: &[char]) -> Result<Option<Set>, Alloc
     Ok(property_normalized(&name))
 }
 
-/// Returns the set of the property with this normalized name, or `None` if no property has the
-/// name.
+/// Returns the set of the property with the normalized name `name`, or `None` if there is no such
+/// property.
 fn property_normalized(name: &[u8]) -> Option<Set>
     ensures { result ≡ property_normalized name.now }
 {
@@ -192,7 +192,7 @@ fn property_normalized(name: &[u8]) -> Option<Set>
     sets::by_name(name).ok()
 }
 
-/// Returns the characters of a property's set `set`.
+/// Returns the characters in `set`, the set of a property.
 ///
 /// # Errors
 ///

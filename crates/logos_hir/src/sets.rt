@@ -1,5 +1,5 @@
-//! Sets of characters and of bytes, as ranges. The builders of trees and the readers of brackets
-//! combine them.
+//! Sets of characters or bytes, represented as ranges. The builders of trees and the reader of
+//! brackets combine sets.
 
 ghost use Rattle.std.specs.Prelude.{◌≡◌, ℕ, ◌+◌, ◌<◌, ◌≤◌, true, ◌||◌, ◌&&◌, not, nat_le, [], IfOk, OnOk, MatchOption};
 ghost use Rattle.logos_hir.specs.Imports.{IsNonDecreasingBy, scalar, AreCanonical, in_range, in_ranges, is_range, next, IsLimit, AreRanges, free_from, in_gap, AddsCharacters, HasCharacters};
@@ -14,9 +14,9 @@ pub const LAST_BYTE: u32 = 0xFF;
 /// The greatest character.
 pub const LAST_CHAR: u32 = 0x10_FFFF;
 
-/// A set of characters, or of bytes: the fewest ranges, in ascending order. Each range starts and
-/// ends with a character, and there is a character between any two ranges, so that sets with the
-/// same members have the same ranges.
+/// A set of characters or bytes, represented by the fewest ranges in ascending order. Each range
+/// starts and ends with a character, and there is a character between any two ranges. Sets with
+/// equal members therefore have equal ranges.
 #[derive(Drop)]
 pub struct RangeSet {
     ranges: Vec<Range>,
@@ -31,7 +31,8 @@ fn after(c: u32) -> u32
     if c == 0xD7FF { 0xE000 } else { c + 1 }
 }
 
-/// Returns the character before `limit`, which is a character other than U+0000, or 0x110000.
+/// Returns the character before `limit`. `limit` must be a character other than U+0000, or
+/// 0x110000.
 fn before(limit: u32) -> u32
     requires limit { IsLimit limit }
     requires some { 0 < limit }
@@ -41,8 +42,8 @@ fn before(limit: u32) -> u32
     if limit == 0xE000 { 0xD7FF } else { limit - 1 }
 }
 
-/// Appends to `out` the range of characters from `first` up to but not including `end`, and not
-/// after `last`. Appends nothing if there are none.
+/// Appends to `out` the range of the characters from `first` up to but not including `end`, without
+/// characters after `last`. Appends nothing if there are no such characters.
 fn push_gap(out: &mut Vec<Range>, first: u32, end: u32, last: u32) -> Result<(), AllocError>
     requires first { IsLimit first }
     requires end { IsLimit end }
@@ -66,8 +67,8 @@ fn push_gap(out: &mut Vec<Range>, first: u32, end: u32, last: u32) -> Result<(),
     Ok(())
 }
 
-/// Returns the characters up to `last` that are in none of the ranges. The starts of the ranges
-/// must not descend.
+/// Returns the characters up to `last` that are in none of the ranges. The ranges must be sorted by
+/// their first numbers.
 fn gaps(alloc: Global, ranges: &[Range], last: u32) -> Result<Vec<Range>, AllocError>
     requires ranges { AreRanges (pairs ranges.now) }
     requires sorted { IsNonDecreasingBy (λ r. r.first) ranges.now }
@@ -110,7 +111,8 @@ fn last_char(c: u32) -> u32
     }
 }
 
-/// Appends to `out` the range of the characters in `range`, or nothing if there are none.
+/// Appends to `out` the range of the characters in `range`, or nothing if `range` contains no
+/// characters.
 fn push_chars(out: &mut Vec<Range>, range: Range) -> Result<(), AllocError>
     requires { AreRanges (pairs out.old.items) }
     ensures ranges { OnOk result (AreRanges (pairs out.new.items)) }
@@ -127,8 +129,8 @@ fn push_chars(out: &mut Vec<Range>, range: Range) -> Result<(), AllocError>
     Ok(())
 }
 
-/// Returns the ranges, each from its first to its last character. Ranges without characters are
-/// left out.
+/// Returns the ranges, each narrowed to start and end with a character. Ranges without characters
+/// are left out.
 fn chars_of(alloc: Global, ranges: &[Range]) -> Result<Vec<Range>, AllocError>
     ensures ranges { IfOk result (λ out. AreRanges (pairs out.items)) }
     ensures members { IfOk result (λ out. HasCharacters (pairs out.items)
@@ -174,7 +176,7 @@ impl RangeSet {
         Ok(RangeSet { ranges })
     }
 
-    /// Returns the members up to U+00FF, which are bytes.
+    /// Returns the members up to U+00FF.
     ///
     /// # Errors
     ///
@@ -186,7 +188,7 @@ impl RangeSet {
         self.complement(char::MAX)?.complement('\u{FF}')
     }
 
-    /// Returns the only member, or `None` if there is not exactly one.
+    /// Returns the only member, or `None` if the set does not have exactly one member.
     pub fn sole_member(&self) -> Option<char>
         ensures { result ≡ sole_member (pairs self.now.ranges.items) }
     {

@@ -1,6 +1,6 @@
-//! Builds trees unsimplified and simplifies them at the end, so that each node is moved and
-//! examined once, regardless of the number of groups around it. `logos_syntax` calls it once, at
-//! the end of a pattern.
+//! Builds unsimplified trees, and simplifies each tree at the end. Each node is therefore moved and
+//! examined only once, regardless of the number of groups around it. `logos_syntax` calls
+//! `simplify` once, at the end of a pattern.
 
 ghost use Rattle.std.specs.Prelude.{◌≡◌, ◌++◌, map, flat_map, IfOk, OnOk};
 ghost use Rattle.logos_hir.specs.Views.{trees, capture as capture_of, tree_of, parts_of, branches_of, concat_of, alternation_of, repetition_of, simplest, all_simplest, simplest_tree, add_parts, fits_of};
@@ -10,16 +10,16 @@ use crate::builder::{capture, in_a_row, push_flat, repetition};
 use crate::hir::Hir;
 use std::alloc::{AllocError, Global};
 
-/// Returns a concatenation of `parts`, unsimplified. A single part is returned unchanged, and no
-/// parts make `Empty`.
+/// Returns an unsimplified concatenation of `parts`. Returns a single part unchanged, and
+/// `Hir::Empty` if `parts` is empty.
 pub fn row(parts: Vec<Hir>) -> Hir
     ensures { simplest_tree result ≡ concat_of (map simplest_tree parts.items) }
 {
     in_a_row(parts)
 }
 
-/// Returns an alternation of `branches`, unsimplified. A single branch is returned unchanged, and
-/// no branches make an alternation without branches.
+/// Returns an unsimplified alternation of `branches`, which may be empty. Returns a single branch
+/// unchanged.
 pub fn either(mut branches: Vec<Hir>) -> Hir
     ensures { simplest_tree result ≡ alternation_of (map simplest_tree branches.items) }
 {
@@ -32,7 +32,7 @@ pub fn either(mut branches: Vec<Hir>) -> Hir
     }
 }
 
-/// Returns a repetition of `body`, unsimplified.
+/// Returns an unsimplified repetition of `body`.
 ///
 /// # Errors
 ///
@@ -55,7 +55,7 @@ pub fn repeated(
     })
 }
 
-/// Returns a capture group around `body`, unsimplified.
+/// Returns an unsimplified capture group around `body`.
 ///
 /// # Errors
 ///
@@ -66,7 +66,7 @@ pub fn captured(alloc: Global, body: Hir) -> Result<Hir, AllocError>
     Ok(Hir::Capture(Box::new(alloc, body)?))
 }
 
-/// Appends to `parts` the parts that `tree`, after it is simplified, adds to a concatenation.
+/// Appends the parts of the simplest form of `tree` to `parts`.
 #[cycle(simplify)]
 fn push_simplified(alloc: Global, tree: Hir, parts: &mut Vec<Hir>) -> Result<(), AllocError>
     ensures { OnOk result (map tree_of parts.new.items ≡
@@ -78,8 +78,7 @@ fn push_simplified(alloc: Global, tree: Hir, parts: &mut Vec<Hir>) -> Result<(),
     }
 }
 
-/// Appends to `parts` the parts that the trees of `inner`, after they are simplified, add to a
-/// concatenation.
+/// Appends the parts of the simplest form of each tree in `inner` to `parts`.
 #[cycle(simplify)]
 fn push_all_simplified(
     alloc: Global,
@@ -96,8 +95,8 @@ fn push_all_simplified(
     Ok(())
 }
 
-/// Appends to `branches` the branches that `tree`, after it is simplified, adds to an alternation.
-/// Returns the classes that these branches fit.
+/// Appends the branches of the simplest form of `tree` to `branches`. Returns the classes that the
+/// appended branches fit.
 #[cycle(simplify)]
 fn push_simplified_branch(
     alloc: Global,
@@ -119,8 +118,8 @@ fn push_simplified_branch(
     }
 }
 
-/// Appends to `branches` the branches that the trees of `all`, after they are simplified, add to an
-/// alternation. Returns the classes that these branches fit.
+/// Appends the branches of the simplest form of each tree in `all` to `branches`. Returns the
+/// classes that the appended branches fit.
 #[cycle(simplify)]
 fn push_all_branches(
     alloc: Global,
@@ -140,8 +139,7 @@ fn push_all_branches(
     Ok(fits)
 }
 
-/// Returns the simplest form of a tree, rebuilt with the builders from its innermost parts
-/// outwards.
+/// Returns the simplest form of a tree, rebuilt by the builders from the innermost nodes outwards.
 ///
 /// # Errors
 ///

@@ -1,5 +1,5 @@
-//! Writes a file of the system entirely or not at all: writes a new file beside the old one, and
-//! then renames the new file to the name of the old one. Used by `Disk`.
+//! Writes a file of the system entirely or not at all: writes a new file beside the old file, and
+//! then renames the new file to the name of the old file. Used by `Disk`.
 
 use crate::paths::file_name;
 use std::fs::Metadata;
@@ -8,17 +8,17 @@ use std::os::unix::fs::{MetadataExt, PermissionsExt};
 use std::rt::Files;
 use std::{fs, io};
 
-/// The number of links after which a chain of links to a file is refused.
+/// The minimum length of a chain of links that is refused.
 const LINKS: usize = 40;
 
-/// The permission bits of a file's mode, to read, write and execute it.
+/// The bits of a file's mode with the permissions to read, write and execute the file.
 const RIGHTS: u32 = 0o777;
 
 /// Writes `bytes` to the file at `path` entirely or not at all. If there is no such file, first
-/// creates the missing folders of its path, which stay if a later step fails.
+/// creates the missing folders of its path. The created folders remain if a later step fails.
 ///
-/// If the path is that of a link, the target of the link is replaced, or created if it does not
-/// exist. A device or a pipe is written directly.
+/// If `path` is the path of a link, replaces the target of the link, or creates the target if it
+/// does not exist. Writes to a device or a pipe directly.
 pub(crate) fn write_whole<R: Files + AllocGlobal + Clone + Drop>(
     rt: &R,
     path: &str,
@@ -35,8 +35,8 @@ pub(crate) fn write_whole<R: Files + AllocGlobal + Clone + Drop>(
     }
 }
 
-/// Returns the path of the missing file to which the links at `path` lead, which is `path` if it is
-/// no link. Fails if there are `LINKS` links or more.
+/// Returns the path of the missing file to which the links at `path` lead, or `path` if it is not
+/// the path of a link. Fails if there are `LINKS` links or more.
 fn target_of<R: Files + AllocGlobal>(rt: &R, path: &str) -> io::Result<String> {
     let mut target = String::from_str(rt.alloc(), path)?;
     for _ in 0..LINKS {
@@ -48,7 +48,7 @@ fn target_of<R: Files + AllocGlobal>(rt: &R, path: &str) -> io::Result<String> {
     Err(io::Error::from(ErrorKind::FilesystemLoop))
 }
 
-/// Returns the path to which a link at `path` leads whose target is `link`.
+/// Returns the path to which the link at `path` with the target `link` leads.
 fn joined<R: AllocGlobal>(rt: &R, path: &str, link: &str) -> io::Result<String> {
     let mut target = String::new(rt.alloc());
     if !link.starts_with('/') && path.contains('/') {
@@ -59,8 +59,8 @@ fn joined<R: AllocGlobal>(rt: &R, path: &str, link: &str) -> io::Result<String> 
     Ok(target)
 }
 
-/// Replaces the file at `path` by a new file with `bytes`, and with the owner and the mode of `old`
-/// as far as `keep_owner` sets them.
+/// Replaces the file at `path` with a new file that contains `bytes`. The new file has the owner,
+/// the group and the mode of `old`, as far as `keep_owner` can set them.
 fn replace_file<R: Files + AllocGlobal + Clone + Drop>(
     rt: &R,
     path: &str,
@@ -88,7 +88,7 @@ fn keep_owner<R: Files>(rt: &R, path: &str, old: &Metadata) -> io::Result<()> {
     fs::set_permissions(rt, path, permissions)
 }
 
-/// Creates the file at `path`, which does not exist, with `bytes`, and the missing folders of its
+/// Creates the missing file at `path` with the content `bytes`, and the missing folders of its
 /// path.
 fn create_file<R: Files + AllocGlobal + Clone + Drop>(
     rt: &R,
@@ -102,7 +102,8 @@ fn create_file<R: Files + AllocGlobal + Clone + Drop>(
 }
 
 /// Writes `bytes` to a new file beside the file at `path`, and returns the path of the new file:
-/// `path`, the process id and `.new`. First removes the files that ended processes left there.
+/// `path`, the process id and `.new`. First removes the new files that terminated processes left
+/// beside the file at `path`.
 fn write_beside<R: Files + AllocGlobal + Clone + Drop>(
     rt: &R,
     path: &str,
@@ -125,7 +126,7 @@ fn own_number<R: Files + AllocGlobal>(rt: &R) -> io::Result<String> {
     }
 }
 
-/// Removes the new files that ended processes left beside the file at `path`.
+/// Removes the new files that terminated processes left beside the file at `path`.
 fn remove_leftovers<R: Files + AllocGlobal + Clone + Drop>(rt: &R, path: &str) -> io::Result<()> {
     let folder = match folder_of(path) {
         "" => ".",
@@ -139,8 +140,8 @@ fn remove_leftovers<R: Files + AllocGlobal + Clone + Drop>(rt: &R, path: &str) -
     Ok(())
 }
 
-/// Removes the file `other` of a folder if an ended process left it beside the file `name`. An
-/// error of the removal is ignored.
+/// Removes the file `other` in the folder `folder` if a terminated process left it as a new file
+/// beside the file `name`. Ignores an error of the removal.
 fn remove_leftover<R: Files + AllocGlobal>(
     rt: &R,
     name: &str,
@@ -160,8 +161,8 @@ fn remove_leftover<R: Files + AllocGlobal>(
     Ok(())
 }
 
-/// Returns the process id in the name `other` of a new file beside the file `name`, or `None` if
-/// `other` is no such name.
+/// Returns the process id in `other` if it is the name of a new file beside the file `name`, and
+/// `None` otherwise.
 fn process_of<'n>(name: &str, other: &'n str) -> Option<&'n str> {
     let process = other
         .strip_prefix(name)?

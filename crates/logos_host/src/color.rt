@@ -16,7 +16,7 @@ pub enum Color {
 }
 
 impl Color {
-    /// Returns whether a text has colors. `is_terminal` is whether the text is written to a
+    /// Returns whether a text has colors. `is_terminal` is `true` if the text is written to a
     /// terminal.
     pub fn is_on(self, is_terminal: bool) -> bool
         ensures { result ≡ has_colors self is_terminal }

@@ -27,8 +27,7 @@ pub trait ComparableFiles: Files {
     // Holds if two paths lead to one file.
     ghost same_finds: { Self → List ℕ → List ℕ → Bool → Type 0 } = { λ _ _ _ _. ⊤ };
 
-    /// Returns whether the file at `path` has exactly `bytes`, has other content, or is missing.
-    /// Only a regular file is read.
+    /// Compares the file at `path` with `bytes`. Reads the file only if it is a regular file.
     ///
     /// # Errors
     ///

@@ -11,10 +11,10 @@ use std::alloc::{AllocError, AllocFailed};
 use std::io;
 use std::io::ErrorKind;
 
-/// The reason that a program ends with another exit status than 0.
+/// The reason why a program ends with an exit status other than 0.
 #[derive(Drop)]
 pub enum Failure<'w> {
-    /// The arguments are invalid: the reason, and the invalid argument, which may be empty.
+    /// The arguments are invalid for the reason `what`. `word` is the invalid argument, or empty.
     Misuse {
         what: &'static str,
         word: &'w str,
@@ -25,7 +25,7 @@ pub enum Failure<'w> {
         word: &'w str,
         nearest: &'static str,
     },
-    /// The output file, which has this path, is the input file.
+    /// The output file at this path is the input file.
     OwnOutput(&'w str),
     /// The source is refused, for the reasons in this text.
     Refused(String),
@@ -77,7 +77,7 @@ impl From<Memory> for Failure<'_> {
 
 impl Failure<'_> {
     /// Returns the exit status: 1 if the source is refused or the input is not UTF-8, 2 if the
-    /// arguments are invalid or name the input as the output, and 3 for each other failure.
+    /// arguments are invalid or name the input as the output, and 3 for any other failure.
     pub fn status(&self) -> u8
         ensures { result ≡ status_of self.now }
     {
@@ -115,8 +115,8 @@ impl Failure<'_> {
         }
     }
 
-    /// Returns the failure for an error of standard output: `Closed` if its reader has closed it,
-    /// otherwise `Output`.
+    /// Returns the failure for an error of writing to standard output: `Closed` if the reader has
+    /// closed the output, otherwise `Output`.
     pub fn of_output(error: &io::Error) -> Failure<'static>
         ensures closed { error_kind error.now ≡ ErrorKind.BrokenPipe → result ≡ Closed }
         ensures other { error_kind error.now ≢ ErrorKind.BrokenPipe → result ≡ Output }
@@ -127,7 +127,7 @@ impl Failure<'_> {
     }
 }
 
-/// Returns the failure for an error of standard output that has this kind: `Closed` for
+/// Returns the failure for an error of the kind `kind` in writing to standard output: `Closed` for
 /// `BrokenPipe`, otherwise `Output`.
 fn output_failure(kind: ErrorKind) -> Failure<'static>
     ensures closed { kind ≡ ErrorKind.BrokenPipe → result ≡ Closed }

@@ -43,12 +43,12 @@ pub trait Files {
         ensures ends { read_ends self.old self.new };
 
     /// Replaces the content of the file at `path` with `bytes`. Creates the file and the missing
-    /// folders of the path.
+    /// folders of its path if the file does not exist.
     ///
     /// # Errors
     ///
     /// Returns `Failed` if a folder or the file cannot be created or written, and `Memory` if
-    /// memory runs out. Folders that were created stay.
+    /// memory runs out. Created folders remain.
     fn write(&mut self, path: &str, bytes: &[u8]) -> Result<(), FileError>
         ensures makes { OnOk result (write_makes self.old path.now bytes.now self.new) }
         ensures ends { write_ends self.old path.now self.new };

@@ -1,5 +1,5 @@
-//! The shell of the three programs: their arguments, files, failures and messages, reading and
-//! writing.
+//! Connects the three programs with the system: reads their arguments and files, writes their
+//! output and files, and reports their failures.
 
 #![tactic(auto)]
 

@@ -54,7 +54,8 @@ fn write_message<E: Write>(failure: &Failure<'_>, usage: &str, err: &mut E) -> i
     }
 }
 
-/// Writes the message for the file at `path`, which is UTF-8 only up to the byte `valid_up_to`.
+/// Writes the message for the file at `path`, which is UTF-8 only up to the byte offset
+/// `valid_up_to`.
 fn write_not_text<E: Write>(path: &str, valid_up_to: usize, err: &mut E) -> io::Result<()>
     ensures { OnOk result (Appends (E.contents err.old) (E.contents err.new)
         (codes "error: cannot read " ++ (shown_text path.now
@@ -86,8 +87,8 @@ fn write_shown<E: Write>(text: &str, err: &mut E) -> io::Result<()>
     Ok(())
 }
 
-/// Writes a character in a form that cannot control a terminal: a tab as four spaces, and each
-/// other character as `occur_in` returns it.
+/// Writes a character in a form that cannot control a terminal: a tab as four spaces, and any other
+/// character in the form that `occur_in` returns.
 fn write_shown_char<E: Write>(character: char, err: &mut E) -> io::Result<()>
     ensures { OnOk result (Appends (E.contents err.old) (E.contents err.new)
         (shown_char character)) }
@@ -99,7 +100,7 @@ fn write_shown_char<E: Write>(character: char, err: &mut E) -> io::Result<()>
     write!(err, "{shown}")
 }
 
-/// Writes the line with the reason that the arguments are invalid, and the usage.
+/// Writes the line with the reason why the arguments are invalid, and the usage.
 fn write_misuse<E: Write>(what: &str, word: &str, usage: &str, err: &mut E) -> io::Result<()>
     ensures { OnOk result (Appends (E.contents err.old) (E.contents err.new)
         (misuse_line what.now word.now ++ usage.now)) }
@@ -108,8 +109,8 @@ fn write_misuse<E: Write>(what: &str, word: &str, usage: &str, err: &mut E) -> i
     err.write_all(usage.as_bytes())
 }
 
-/// Writes the line with `what`, the reason that the arguments are invalid, and with the invalid
-/// argument `word`, unless that is empty.
+/// Writes the line with `what`, the reason why the arguments are invalid. Appends the invalid
+/// argument `word` to the line unless `word` is empty.
 fn write_misuse_line<E: Write>(what: &str, word: &str, err: &mut E) -> io::Result<()>
     ensures { OnOk result (Appends (E.contents err.old) (E.contents err.new)
         (misuse_line what.now word.now)) }
@@ -122,8 +123,8 @@ fn write_misuse_line<E: Write>(what: &str, word: &str, err: &mut E) -> io::Resul
     writeln!(err, "`")
 }
 
-/// Writes the message for an unknown option: the argument `word`, the option `nearest` that may be
-/// meant, unless that is empty, and the usage.
+/// Writes the message for the unknown option `word`, a line that suggests the option `nearest`
+/// unless `nearest` is empty, and the usage.
 fn write_unknown<E: Write>(word: &str, nearest: &str, usage: &str, err: &mut E) -> io::Result<()>
     ensures { OnOk result (Appends (E.contents err.old) (E.contents err.new)
         (misuse_line (codes "unknown option") word.now ++ (hint_line nearest.now ++ usage.now))) }
@@ -133,7 +134,7 @@ fn write_unknown<E: Write>(word: &str, nearest: &str, usage: &str, err: &mut E) 
     err.write_all(usage.as_bytes())
 }
 
-/// Writes the line with the option `nearest` that may be meant, or nothing if that is empty.
+/// Writes the line that suggests the option `nearest`, or nothing if `nearest` is empty.
 fn write_hint<E: Write>(nearest: &str, err: &mut E) -> io::Result<()>
     ensures { OnOk result (Appends (E.contents err.old) (E.contents err.new)
         (hint_line nearest.now)) }

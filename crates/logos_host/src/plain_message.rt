@@ -1,5 +1,5 @@
-//! Writes the messages of failures in `logos`, without the reasons of the system. Used by
-//! `logos_commands`.
+//! Writes the messages of failures for `logos`, without the reasons that the system reports. Used
+//! by `logos_commands`.
 
 ghost use Rattle.std.specs.Prelude.{◌++◌, OnOk, codes};
 ghost use Rattle.logos_host.specs.Views.{Appends, plain_message_of};

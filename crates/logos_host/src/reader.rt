@@ -44,7 +44,7 @@ pub fn read_text<'w, F: Files>(path: &'w str, files: &mut F) -> Result<String, F
     }
 }
 
-/// Returns the text of the file at `path`, or the error `NotText` if the file is not UTF-8.
+/// Returns the text of the file at `path`, or an error if the file cannot be read or is not UTF-8.
 fn text_at<F: Files>(path: &str, files: &mut F) -> Result<String, FileError>
     ensures read { IfOk result (λ text.
         F.read_yields files.old path.now (string_bytes text) files.new) }

@@ -1,23 +1,23 @@
-//! Defines the reasons for which a file cannot be read or written. Used by `failure`, `files`,
-//! `system`, `logos_commands` and `logos_items`.
+//! Defines the reasons why a file cannot be read or written. Used by `failure`, `files`, `system`,
+//! `logos_commands` and `logos_items`.
 
 ghost use Rattle.std.specs.Prelude.{◌≡◌};
 ghost use Rattle.logos_host.specs.Messages.{reason_text};
 
 use std::io::ErrorKind;
 
-/// The reason that a file cannot be read or written.
+/// The reason why a file cannot be read or written.
 #[derive(Clone, Copy, Debug, PartialEq, Eq)]
 pub enum Reason {
     /// There is no such file.
     Missing,
-    /// The path is that of a folder.
+    /// The path is the path of a folder.
     Folder,
     /// A part of the path is not a folder.
     NoFolder,
     /// The system denies the permission to read or write the file.
     Permission,
-    /// The links of the path form a cycle, or there are too many.
+    /// The links of the path form a cycle, or there are too many links.
     Links,
     /// A name of the path is too long.
     LongName,
@@ -27,14 +27,15 @@ pub enum Reason {
     TooLarge,
     /// The file system is read-only.
     ReadOnly,
-    /// All names for the new file, which is written beside a file and then replaces it, are taken.
+    /// The name of the new file that is written beside the old file, and then replaces it, is
+    /// taken.
     Taken,
     /// The system reports another reason.
     Other,
 }
 
 impl Reason {
-    /// Returns the reason for an error of this kind.
+    /// Returns the reason for an error of the kind `kind`.
     pub fn of_kind(kind: ErrorKind) -> Reason {
         match kind {
             ErrorKind::NotFound => Reason::Missing,

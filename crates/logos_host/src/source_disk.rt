@@ -8,13 +8,13 @@ use std::io::Read;
 use std::rt::Files as Runtime;
 use std::{fs, io};
 
-/// The maximum number of bytes that are read from a file: five more than the longest source, so
-/// that the text is still too long after its last character is removed.
+/// The maximum number of bytes that are read from a file. It exceeds the maximum length of a source
+/// by five, so that a text of this length is still too long after its last character is removed.
 const MAX_READ: u64 = 16_777_221;
 
 /// The files that a runtime can access, as sources. At most `MAX_READ` bytes of a file are read,
-/// which is enough to detect that the file is too long for a source. A device without an end is
-/// therefore refused as too long.
+/// which is enough to detect that the file is too long for a source. An endless device is therefore
+/// refused as too long.
 #[derive(Drop)]
 pub struct SourceDisk<'r, R> {
     /// The runtime.
@@ -72,7 +72,7 @@ fn cut_last(bytes: &mut Vec<u8>) {
     }
 }
 
-/// Returns whether a byte is a continuation byte, with which no character begins.
+/// Returns whether a byte is a continuation byte of UTF-8.
 fn is_continuation(byte: u8) -> bool {
     (0x80 <= byte) & (byte <= 0xBF)
 }

@@ -66,7 +66,7 @@ impl<R: Runtime + AllocGlobal + Clone + Drop> ComparableFiles for Disk<'_, R> {
     }
 }
 
-/// The maximum length of a file that is read for a message, in bytes.
+/// The maximum length in bytes of a file that is read for a message.
 const MAX_SHOWN: u64 = 67_108_864;
 
 /// Returns the bytes of the file at `path`, or no bytes if the file cannot be read.
@@ -78,7 +78,7 @@ fn bytes_at<R: Runtime + AllocGlobal>(rt: &R, path: &str) -> Result<Vec<u8>, All
     }
 }
 
-/// Returns whether two paths with these metadata lead to one regular file.
+/// Returns whether `one` and `other` are metadata of one regular file.
 fn is_same(one: &Metadata, other: &Metadata) -> bool {
     one.is_file() && one.dev() == other.dev() && one.ino() == other.ino()
 }

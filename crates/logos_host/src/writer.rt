@@ -59,7 +59,7 @@ pub fn write_file<'w, F: Files>(
     }
 }
 
-/// Writes a block to `out` and empties it, if it has at least `length` bytes.
+/// Writes a block to `out` and empties the block if it has at least `length` bytes.
 ///
 /// # Errors
 ///

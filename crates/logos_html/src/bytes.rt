@@ -1,4 +1,4 @@
-//! Writes bytes as text of a page. Used by `spans`.
+//! Writes bytes as preformatted text of a page. Used by `spans`.
 
 ghost use Rattle.std.specs.Prelude.{◌≡◌, ◌<◌};
 ghost use Rattle.logos_html.specs.Imports.{Gains, byte_escape, flowing_byte, flowing_bytes, flowing_char, flowing_others, flowing_text, hex_digit};
@@ -6,8 +6,9 @@ ghost use Rattle.logos_html.specs.Imports.{Gains, byte_escape, flowing_byte, flo
 use crate::html::Html;
 use std::str;
 
-/// Appends bytes as preformatted text: as characters if all are UTF-8, otherwise ASCII as
-/// characters and every other byte as its escape. A line ends after the picture of LF.
+/// Appends bytes as preformatted text. Bytes that are UTF-8 are appended as characters. Otherwise,
+/// ASCII is appended as characters, and every other byte as its escape. The picture of each LF is
+/// followed by a line end.
 pub(crate) fn push_bytes(html: &mut Html, bytes: &[u8])
     ensures { Gains (flowing_bytes bytes.now) html.old html.new }
 {

@@ -5,8 +5,8 @@ use logos_graph::graph::ByteClass;
 use logos_page::Page;
 use std::alloc::{AllocError, Global};
 
-/// Appends the first `most` ranges of a set of bytes, between brackets, and the number of the
-/// remaining ranges.
+/// Appends the first `most` ranges of a set of bytes in brackets, and the number of the remaining
+/// ranges.
 ///
 /// # Errors
 ///

@@ -1,4 +1,4 @@
-//! Describes items by the lines that `--at` prints about their starts. Used by `document`.
+//! Describes items with the lines that `--at` prints for their starts. Used by `document`.
 
 ghost use Rattle.std.specs.Prelude.{◌≡◌, ◌+◌, ◌≤◌, IfOk, drop, length, map, string_bytes};
 ghost use Rattle.logos_html.specs.Views.{AllStart, AreDescribed, IsBytes, IsDescribed, IsDescription, IsEnough, IsGraphOf, described_of, item_of, items_of, rules_of, start_of};
@@ -17,7 +17,7 @@ use std::alloc::{AllocError, Global};
 /// The maximum number of steps for the descriptions of a page.
 const MOST: usize = 268_435_456;
 
-/// The number of steps that reading or writing a byte counts as.
+/// The number of steps for reading or writing a byte.
 const BYTE: usize = 64;
 
 /// The maximum number of bytes that are read for one description.
@@ -27,7 +27,7 @@ const LONGEST: usize = 65_536;
 #[derive(Drop)]
 pub(crate) struct Described<'i> {
     pub(crate) item: Item<'i>,
-    /// The lines about the start of the item, or an empty text if they add nothing to its label.
+    /// The lines that describe the item, or an empty text if they add nothing to the item's label.
     pub(crate) description: String,
 }
 
@@ -39,17 +39,17 @@ pub(crate) struct Subject<'a, 's> {
     pub(crate) bytes: &'a [u8],
 }
 
-/// The steps that are left for the descriptions of a page. They bound the time for the descriptions
-/// and their size.
+/// A budget of steps for the descriptions of a page. It bounds the size of the descriptions and the
+/// time for making them.
 #[derive(Clone, Copy)]
 pub(crate) struct Budget {
     left: usize,
     /// The start of the first item for which the budget was too small, as an offset in bytes, or
-    /// `None` if there was none. Neither this item nor a later one has a description.
+    /// `None` if there was no such item. This item and all later items have no description.
     pub(crate) end: Option<usize>,
 }
 
-/// Returns a budget of which nothing is spent.
+/// Returns an unspent budget.
 pub(crate) fn new_budget() -> Budget {
     Budget {
         left: MOST,
@@ -57,7 +57,7 @@ pub(crate) fn new_budget() -> Budget {
     }
 }
 
-/// Returns `items` with their descriptions, and spends the steps for these from `budget`.
+/// Returns `items` with their descriptions. The steps for the descriptions are taken from `budget`.
 ///
 /// # Errors
 ///
@@ -83,9 +83,9 @@ pub(crate) fn describe<'i>(
     Ok(described)
 }
 
-/// Returns the description of an item, and spends the steps for it from `budget`. Returns an empty
-/// text if the description would add nothing to the label of the item, or if the budget is too
-/// small.
+/// Returns the description of an item, or an empty text if the description would add nothing to the
+/// label of the item or if the budget is too small. The steps for the description are taken from
+/// `budget`.
 fn description_of(
     alloc: Global,
     subject: Subject<'_, '_>,
@@ -114,9 +114,9 @@ fn description_of(
     Ok(text)
 }
 
-/// Returns the lines that `--at` prints about the offset `from` of an input: the matches from
-/// there, and the partial matches if no leaf matches. The lines are made from the bytes up to `from
-/// + count`, which have to decide them.
+/// Returns the lines that `--at` prints for the offset `from` of an input: the matches that start
+/// at this offset, and the partial matches if no leaf matches. Only the bytes before the offset
+/// `from + count` are read. They must suffice to decide which leaves match.
 ///
 /// # Errors
 ///
@@ -143,8 +143,9 @@ fn answer_of(
     Ok(text)
 }
 
-/// Returns whether the lines `text` about an item add nothing to its label: whether there are no
-/// more lines than `usual_lines`. Spends the steps for the lines from `budget`.
+/// Returns whether `text`, the lines about an item, adds nothing to the item's label: whether it
+/// has no more lines than `usual_lines` returns. The steps for the lines are taken from `budget`.
+/// `count` is the number of bytes that were read for the lines.
 fn is_usual(
     subject: Subject<'_, '_>,
     budget: &mut Budget,
@@ -162,9 +163,9 @@ fn is_usual(
     false
 }
 
-/// Returns the number of steps for the partial matches at an error with this many lines: the states
-/// are visited for each leaf, and the location in each line is counted from the beginning of the
-/// input. Returns 0 for a match.
+/// Returns the number of steps for the partial matches at an error, or 0 for a match. The states
+/// are visited for each leaf, and the location in each of the `lines` lines is counted from the
+/// beginning of the input.
 fn steps_at(subject: Subject<'_, '_>, item: Item<'_>, lines: usize) -> usize {
     match item {
         Item::Token { .. } => 0,
@@ -178,12 +179,13 @@ fn steps_at(subject: Subject<'_, '_>, item: Item<'_>, lines: usize) -> usize {
     }
 }
 
-/// Subtracts `count` steps from a budget, which does not fall below 0.
+/// Subtracts `count` steps from a budget, saturating at 0.
 fn spend(budget: &mut Budget, count: usize) {
     budget.left = budget.left.saturating_sub(count);
 }
 
-/// Empties a budget, and records `from`, the start of an item, as its end if it has none.
+/// Sets the steps of a budget to 0. Records `from`, the start of an item, as the end of the budget
+/// unless the budget already has an end.
 fn close(budget: &mut Budget, from: usize) {
     budget.left = 0;
     if budget.end.is_none() {
@@ -191,8 +193,8 @@ fn close(budget: &mut Budget, from: usize) {
     }
 }
 
-/// Returns the number of lines about an item that add nothing to its label: one for the match,
-/// unless the item is an error, and one for the verdict.
+/// Returns the maximum number of lines about an item that add nothing to its label: one line for
+/// the verdict, and one for the match unless the item is an error.
 fn usual_lines(item: Item<'_>) -> usize {
     match item {
         Item::Token { .. } => 2,

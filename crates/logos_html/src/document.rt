@@ -1,4 +1,4 @@
-//! Makes the page of a lexer: its head, its sections and its end. Used by `logos_show`.
+//! Assembles the page of a lexer from its head, its sections and its end. Used by `logos_show`.
 
 ghost use Rattle.std.specs.Prelude.{◌≡◌, ◌++◌, IfErr, IfOk, IfSome, map, string_bytes};
 ghost use Rattle.logos_html.specs.Views.{AreDescribed, Begins, HasMarked, IsMarked, IsNoMisuse, described_of, emits, items_of, shown};
@@ -44,8 +44,9 @@ pub struct PageInput<'p> {
     pub bytes: &'p [u8],
 }
 
-/// Returns the page of a lexer, with the text of `input` if one is given. Of an input of more than
-/// 65,536 bytes, at most the first 65,536 are shown, and the page states how many.
+/// Returns the page of a lexer, with the text of `input` if there is an input. If the input has
+/// more than 65,536 bytes, at most the first 65,536 bytes are shown, and the page states how many
+/// are shown.
 ///
 /// # Errors
 ///
@@ -109,8 +110,9 @@ fn joined(front: String, middle: &str, rest: &str) -> Result<String, AllocError>
     Ok(whole)
 }
 
-/// Returns the page up to the marked text of the input, or up to the section of the states if no
-/// input is given. Items that start at the offset `described` or after it have no description.
+/// Returns the front of a page: the page up to the marked text of the input, or up to the section
+/// of the states if there is no input. If `described` is `Some`, items that start at this offset or
+/// after it have no description.
 fn front_of(
     alloc: Global,
     page: LexerPage<'_, '_>,
@@ -126,7 +128,7 @@ fn front_of(
     html.finish()
 }
 
-/// Returns the text of the shown front of an input, in which the shown bytes of each of `items` are
+/// Returns the shown front of an input as HTML in which the shown bytes of each of `items` are
 /// marked.
 fn marked_of(
     alloc: Global,
@@ -150,8 +152,8 @@ fn marked_of(
     html.finish()
 }
 
-/// Returns the page after the marked text of the input, or the page from the section of the states
-/// on if no input is given.
+/// Returns the rest of a page: the page after the marked text of the input, or from the section of
+/// the states on if there is no input.
 fn rest_of(
     alloc: Global,
     page: LexerPage<'_, '_>,
@@ -167,7 +169,8 @@ fn rest_of(
     html.finish()
 }
 
-/// Appends the end of the section of the input, if one is given, and the section of the states.
+/// Appends the end of the section of the input, if there is an input, and the section of the
+/// states.
 fn push_input_states(
     alloc: Global,
     html: &mut Html,
@@ -185,8 +188,8 @@ fn push_input_states(
     push_states(alloc, html, page.graph, states, Some(&entries))
 }
 
-/// Appends the head of the page, and its body up to the first section. `has_input` states whether
-/// the page shows an input.
+/// Appends the head of the page, and its body up to the first section. `has_input` is `true` if the
+/// page shows an input.
 fn push_head(html: &mut Html, page: LexerPage<'_, '_>, has_input: bool) {
     html.push_markup(
         "<!DOCTYPE html>
@@ -210,7 +213,8 @@ fn push_head(html: &mut Html, page: LexerPage<'_, '_>, has_input: bool) {
     html.push_markup("</header>\n<main>\n");
 }
 
-/// Appends the links to the sections, with the section of the input's text if `has_input` is set.
+/// Appends the links to the sections. The section of the input's text is linked only if `has_input`
+/// is `true`.
 fn push_navigation(html: &mut Html, has_input: bool) {
     html.push_markup(
         "<nav aria-label=\"Sections\">\n<ul>\n<li><a href=\"#leaves\">Leaves</a></li>\n",
@@ -227,8 +231,9 @@ fn push_navigation(html: &mut Html, has_input: bool) {
     );
 }
 
-/// Returns the end of the shown front of an input, as an offset in bytes: the input's length, or
-/// otherwise `SHOWN` or up to 3 bytes less, so that no character of UTF-8 is split.
+/// Returns the end of the shown front of an input, as an offset in bytes. An input of at most
+/// `SHOWN` bytes is shown completely. Otherwise, the end is `SHOWN`, or up to 3 bytes less so that
+/// no UTF-8 character is split.
 fn end_of(bytes: &[u8]) -> usize {
     if bytes.len() <= SHOWN {
         return bytes.len();
@@ -240,8 +245,8 @@ fn end_of(bytes: &[u8]) -> usize {
     end
 }
 
-/// Returns the offset before `at` if the byte at `at` continues a character of UTF-8, otherwise
-/// `at`.
+/// Returns the offset before `at` if the byte at `at` is a UTF-8 continuation byte, and `at`
+/// otherwise.
 fn before_continuation(bytes: &[u8], at: usize) -> usize {
     match bytes.get(at) {
         Some(byte) if (128 <= *byte) & (*byte < 192) => at.saturating_sub(1),
@@ -249,8 +254,8 @@ fn before_continuation(bytes: &[u8], at: usize) -> usize {
     }
 }
 
-/// Appends the beginning of the section of an input, up to its text. The text is shown up to the
-/// offset `end`, and items from the offset `described` on have no description.
+/// Appends the beginning of the section of an input, up to the text of the input. The text is shown
+/// up to the offset `end`. If `described` is `Some`, items from this offset on have no description.
 fn push_input_head(html: &mut Html, input: PageInput<'_>, end: usize, described: Option<usize>) {
     html.push_markup(
         "<section id=\"text\" aria-labelledby=\"text-title\">
@@ -274,8 +279,8 @@ color. <a class=\"skip\" href=\"#states\">Skip the text</a></p>
     );
 }
 
-/// Appends the sentence that only the first `end` of `length` bytes are shown, if `end` is less
-/// than `length`.
+/// Appends a sentence that states that only the first `end` of `length` bytes are shown. Appends
+/// nothing if all bytes are shown.
 fn push_cut(html: &mut Html, length: usize, end: usize) {
     if end < length {
         html.push_markup("<p class=\"cut\">The first ");
@@ -286,8 +291,8 @@ fn push_cut(html: &mut Html, length: usize, end: usize) {
     }
 }
 
-/// Appends the sentence that items from the offset `described` on have no description, or nothing
-/// for `None`.
+/// Appends a sentence that states that items from the offset `described` on have no description.
+/// Appends nothing if `described` is `None`.
 fn push_undescribed(html: &mut Html, described: Option<usize>) {
     if let Some(end) = described {
         html.push_markup(

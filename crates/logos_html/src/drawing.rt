@@ -7,7 +7,7 @@ use logos_answers::name_at;
 use logos_graph::graph::{Graph, StateData, StateType};
 use std::alloc::{AllocError, Global};
 
-/// The maximum number of states of a graph that is drawn. A larger graph is not drawn.
+/// The maximum number of states of a graph that is drawn.
 const DRAWN: usize = 60;
 
 /// The maximum number of byte ranges that are shown beside an edge.
@@ -30,15 +30,15 @@ const DEEP: usize = 60;
 /// The horizontal distance of a label from the state to which its edge leads.
 const BEFORE: usize = 66;
 
-/// A point of a drawing, from its upper left corner.
+/// A point of a drawing, relative to the upper left corner.
 #[derive(Clone, Copy)]
 struct Dot {
     x: usize,
     y: usize,
 }
 
-/// The form of an edge: to the right, from a state to itself, to another state of its column, or to
-/// the left.
+/// The form of an edge. It depends on the target: a state on the right, the same state, another
+/// state in the same column, or a state on the left.
 #[derive(Clone, Copy)]
 enum Bend {
     Forward,
@@ -47,7 +47,7 @@ enum Bend {
     Back,
 }
 
-/// Appends the section with the drawing of a graph, or with the reason that the graph is not drawn.
+/// Appends the section with the drawing of a graph, or with the reason why the graph is not drawn.
 ///
 /// # Errors
 ///
@@ -72,7 +72,7 @@ pub(crate) fn push_drawing(
     Ok(())
 }
 
-/// Appends the reason that a graph of `count` states is not drawn.
+/// Appends the reason why a graph of `count` states is not drawn.
 fn push_too_large(html: &mut Html, count: usize) {
     html.push_markup("<p class=\"cut\">Only lexers of at most ");
     html.push_number(DRAWN);
@@ -106,8 +106,7 @@ table of states has the same edges as text.</p>
     Ok(())
 }
 
-/// Appends the beginning of the drawing of `count` states: its size, its name and the head of its
-/// arrows.
+/// Appends the beginning of the drawing of `count` states: its size, its title and its arrowhead.
 fn push_frame(html: &mut Html, layers: &Layers, count: usize) {
     let end = dot_at(Cell {
         column: layers.columns.saturating_sub(1),
@@ -144,7 +143,7 @@ fn dot_of(layers: &Layers, state: usize) -> Dot {
     }
 }
 
-/// Appends the edges of the state with the number `number`, with a label for each edge of bytes.
+/// Appends the edges of the state with the number `number`. Each edge for bytes has a label.
 fn push_edges(
     alloc: Global,
     html: &mut Html,
@@ -181,7 +180,7 @@ fn bend_of(from: Dot, to: Dot) -> Bend {
     Bend::Aside
 }
 
-/// Appends the line of an edge, with the beginning `head` of its markup.
+/// Appends the line of an edge. `head` is the beginning of its markup.
 fn push_line(html: &mut Html, from: Dot, to: Dot, head: &'static str) {
     html.push_markup(head);
     match bend_of(from, to) {
@@ -193,7 +192,7 @@ fn push_line(html: &mut Html, from: Dot, to: Dot, head: &'static str) {
     html.push_markup("\" marker-end=\"url(#head)\"/>\n");
 }
 
-/// Appends the curve of an edge to a state on the right.
+/// Appends the curve of an edge that leads to a state on the right.
 fn push_forward(html: &mut Html, from: Dot, to: Dot) {
     push_point(html, "M", from.x.saturating_add(RADIUS), from.y);
     push_point(html, " C", from.x.saturating_add(WIDE / 2), from.y);
@@ -201,7 +200,7 @@ fn push_forward(html: &mut Html, from: Dot, to: Dot) {
     push_point(html, " ", to.x.saturating_sub(RADIUS + 2), to.y);
 }
 
-/// Appends the curve of an edge from the state at the point `at` to itself.
+/// Appends the curve of an edge that leads from the state at the point `at` to itself.
 fn push_loop(html: &mut Html, at: Dot) {
     let top = at.y.saturating_sub(RADIUS - 2);
     let high = at.y.saturating_sub(RADIUS + 34);
@@ -211,7 +210,8 @@ fn push_loop(html: &mut Html, at: Dot) {
     push_point(html, " ", at.x.saturating_add(10), top);
 }
 
-/// Appends the curve of an edge to another state of the same column, on the right of both.
+/// Appends the curve of an edge that leads to another state in the same column. The curve is on the
+/// right of both states.
 fn push_aside(html: &mut Html, from: Dot, to: Dot) {
     push_point(html, "M", from.x.saturating_add(RADIUS), from.y);
     push_point(html, " C", from.x.saturating_add(DEEP), from.y);
@@ -219,7 +219,7 @@ fn push_aside(html: &mut Html, from: Dot, to: Dot) {
     push_point(html, " ", to.x.saturating_add(RADIUS + 2), to.y);
 }
 
-/// Appends the curve of an edge to a state on the left.
+/// Appends the curve of an edge that leads to a state on the left.
 fn push_back(html: &mut Html, from: Dot, to: Dot) {
     let deep = from.y.max(to.y).saturating_add(DEEP);
     push_point(html, "M", from.x, from.y.saturating_add(RADIUS));
@@ -236,7 +236,7 @@ fn push_point(html: &mut Html, head: &'static str, x: usize, y: usize) {
     html.push_number(y);
 }
 
-/// Returns the point of the label of an edge between two points.
+/// Returns the point at which the label of an edge between two points is drawn.
 fn label_between(from: Dot, to: Dot) -> Dot {
     match bend_of(from, to) {
         Bend::Forward => Dot {
@@ -258,7 +258,7 @@ fn label_between(from: Dot, to: Dot) -> Dot {
     }
 }
 
-/// Returns the mean of two numbers, or one less if both are odd.
+/// Returns the mean of two numbers, rounded down, or one less than the mean if both are odd.
 fn middle(one: usize, other: usize) -> usize {
     (one / 2).saturating_add(other / 2)
 }

@@ -8,7 +8,7 @@ use logos_page::Page;
 use std::alloc::{AllocError, Global};
 use std::marker::Model;
 
-/// HTML to which markup and text are appended. A value records whether memory ran out, so only
+/// HTML to which markup and text are appended. It records whether memory ran out, so that only
 /// `finish` can fail.
 #[derive(Drop)]
 pub struct Html {
@@ -24,7 +24,7 @@ impl Model for Html {
 }
 
 impl Html {
-    /// Returns HTML without content.
+    /// Returns empty HTML.
     pub fn new(alloc: Global) -> Html
         ensures { result ≡ record { text = []; is_colored = false; is_whole = true } }
     {
@@ -41,8 +41,8 @@ impl Html {
         self.page.push(markup);
     }
 
-    /// Appends a character as text: a reference if the character would be markup, otherwise its
-    /// shown form.
+    /// Appends a character as text: as a character reference if the character would be markup, and
+    /// in its shown form otherwise.
     pub fn push_char(&mut self, character: char)
         ensures { Gains (escaped_char character) self.old self.new }
     {
@@ -56,7 +56,7 @@ impl Html {
         }
     }
 
-    /// Appends a text, no character of which is read as markup, even in the value of an attribute.
+    /// Appends a text. No character is read as markup, even in the value of an attribute.
     pub fn push_text(&mut self, text: &str)
         ensures { Gains (escaped_text text.now) self.old self.new }
     {
@@ -86,8 +86,8 @@ impl Html {
         }
     }
 
-    /// Appends LF if `character` is LF, otherwise nothing. In preformatted text, LF ends a line of
-    /// the page.
+    /// Appends LF if `character` is LF, and nothing otherwise. In preformatted text, LF ends a line
+    /// of the page.
     pub fn push_line_end(&mut self, character: char)
         ensures { Gains (line_end character) self.old self.new }
     {
@@ -107,7 +107,7 @@ impl Html {
     ///
     /// # Errors
     ///
-    /// Returns `AllocError` if memory ran out at any call.
+    /// Returns `AllocError` if memory ran out in any call.
     pub fn finish(self) -> Result<String, AllocError>
         ensures whole { IsOk result ↔ IsTrue self.is_whole }
         ensures text { IfOk result (λ text. string_bytes text ≡ self.text) }

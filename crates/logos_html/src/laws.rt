@@ -4,7 +4,7 @@ ghost use Rattle.std.specs.Prelude.{◌≡◌, ℕ, List};
 ghost use Rattle.logos_html.specs.Imports.{ReadsAs, escaped_lines, escaped_text, shown_lines, shown_text};
 
 /// A browser reads an escaped text as the shown form of the text: each character that would be
-/// markup is a reference, and no other byte is markup.
+/// markup is a character reference, and no other byte is markup.
 pub fn escaped_text_reads_as_shown()
     ensures { (text : List ℕ) → ReadsAs (escaped_text text) (shown_text text) }
 {}

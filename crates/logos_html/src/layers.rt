@@ -1,4 +1,4 @@
-//! Assigns a cell of a drawing to each state: its column is the state's distance from the root.
+//! Assigns a cell of a drawing to each state. The column of a state is its distance from the root.
 //! Used by `drawing`.
 
 use logos_graph::graph::StateData;
@@ -43,8 +43,8 @@ pub(crate) fn layers_of(alloc: Global, states: &[&StateData]) -> Result<Layers, 
     Ok(layers)
 }
 
-/// Returns the number of states in a column so far, and increases it by one. Returns 0 for a column
-/// beyond `filled`.
+/// Returns the next free row of a column, and counts the row as filled. `filled` is the number of
+/// filled rows of each column. Returns 0 for a column beyond `filled`.
 fn next_row(filled: &mut Vec<usize>, column: usize) -> usize {
     if column < filled.len() {
         let row = filled[column];
@@ -54,8 +54,8 @@ fn next_row(filled: &mut Vec<usize>, column: usize) -> usize {
     0
 }
 
-/// Adds the cell of the next state to `layers`, and enlarges the numbers of columns and rows so
-/// that they cover it.
+/// Adds the cell of the next state to `layers`, and increases the numbers of columns and rows if
+/// the cell is beyond them.
 fn add_cell(layers: &mut Layers, column: usize, row: usize) -> Result<(), AllocError> {
     layers.cells.push(Cell { column, row })?;
     layers.columns = max(layers.columns, column.saturating_add(1));
@@ -63,7 +63,8 @@ fn add_cell(layers: &mut Layers, column: usize, row: usize) -> Result<(), AllocE
     Ok(())
 }
 
-/// Returns the distance of each state from the root, in edges.
+/// Returns the distance of each state from the root, in edges, or `UNREACHED` for a state that
+/// cannot be reached.
 fn columns_of(alloc: Global, states: &[&StateData]) -> Result<Vec<usize>, AllocError> {
     let mut columns = vec![in alloc; UNREACHED; states.len()]?;
     let mut reached = Vec::new(alloc);
@@ -74,8 +75,8 @@ fn columns_of(alloc: Global, states: &[&StateData]) -> Result<Vec<usize>, AllocE
     Ok(columns)
 }
 
-/// Reaches the targets of the edges of the state at the index `at` of `reached`. Changes nothing if
-/// there is no such state.
+/// Reaches the states to which the edges of the state at the index `at` of `reached` lead. Changes
+/// nothing if there is no such index.
 fn reach_next(
     columns: &mut Vec<usize>,
     reached: &mut Vec<usize>,
@@ -98,7 +99,7 @@ fn reach_next(
     }
 }
 
-/// Returns the number at the index `at`, or `None` if there is none.
+/// Returns the number at the index `at`, or `None` if there is no such index.
 fn number_at(numbers: &[usize], at: usize) -> Option<usize> {
     match numbers.get(at) {
         Some(number) => Some(*number),

@@ -7,7 +7,7 @@ use logos_inspect::LeafRow;
 use logos_page::Page;
 use std::alloc::{AllocError, Global};
 
-/// Appends the section of the leaves of `graph`, which `rows` describe.
+/// Appends the section of the leaves of `graph`. `rows` describes the leaves, in order.
 ///
 /// # Errors
 ///
@@ -62,7 +62,8 @@ fn push_row(
     Ok(())
 }
 
-/// Appends the beginning of the row of a leaf, and the cell with its number, in its color.
+/// Appends the beginning of the row of a leaf, and the cell with the leaf's number in the leaf's
+/// color.
 fn push_number_cell(html: &mut Html, number: usize) {
     html.push_markup("<tr id=\"leaf-");
     html.push_number(number);
@@ -87,7 +88,7 @@ fn push_name_cells(html: &mut Html, row: LeafRow<'_>) {
     });
 }
 
-/// Appends the cell with the pattern of a leaf, and with the options that are set for it.
+/// Appends the cell with the pattern of a leaf and the options that are set for the leaf.
 fn push_pattern_cell(html: &mut Html, row: LeafRow<'_>) {
     html.push_markup("<td><code>");
     html.push_text(row.pattern);
@@ -101,7 +102,7 @@ fn push_pattern_cell(html: &mut Html, row: LeafRow<'_>) {
     html.push_markup("</td>");
 }
 
-/// Appends the cell with the priority of a leaf, and whether the priority is the default.
+/// Appends the cell with the priority of a leaf, marked as the default if it is.
 fn push_priority_cell(html: &mut Html, row: LeafRow<'_>) {
     html.push_markup("<td class=\"n\">");
     html.push_number(row.priority);
@@ -111,7 +112,7 @@ fn push_priority_cell(html: &mut Html, row: LeafRow<'_>) {
     html.push_markup("</td>");
 }
 
-/// Appends the cell with the callback of a leaf, which is empty if there is none.
+/// Appends the cell with the callback of a leaf. The cell is empty if the leaf has no callback.
 fn push_callback_cell(html: &mut Html, row: LeafRow<'_>) {
     html.push_markup("<td>");
     if let Some(callback) = row.callback {
@@ -129,8 +130,8 @@ fn push_line_cell(html: &mut Html, line: usize) {
     html.push_markup("</td>");
 }
 
-/// Appends the cell with an input in which the lexer finds the leaf first, or with the statement
-/// that the lexer never finds it.
+/// Appends the cell with an input in which the lexer finds the leaf first, or with a note that
+/// there is no such input.
 fn push_example_cell(
     alloc: Global,
     html: &mut Html,
@@ -147,8 +148,8 @@ fn push_example_cell(
     Ok(())
 }
 
-/// Appends the cell with a text that a leaf matches and loses, and with the leaf that is found
-/// instead. The cell is empty if the leaf loses none.
+/// Appends the cell with an input that a leaf matches but in which another leaf is found, and a
+/// link to the other leaf. The cell is empty if there is no such input.
 fn push_loss_cell(
     alloc: Global,
     html: &mut Html,

@@ -1,6 +1,6 @@
-//! The page of a lexer: an HTML file with its leaves, an input in which its items are marked, its
-//! states, and a drawing of them. In it, texts of sources and inputs are text, never markup.
-//! Used by `logos_show` for `--html`.
+//! Writes the page of a lexer: an HTML file with its leaves, its states, a drawing of the states,
+//! and optionally an input in which the items are marked. The text of sources and inputs is never
+//! read as markup. Used by `logos_show` for `--html`.
 
 #![tactic(auto)]
 

@@ -1,5 +1,4 @@
-//! Counts the bytes after an offset on which the matches from the offset depend. Used by
-//! `descriptions`.
+//! Counts the bytes that decide which matches start at an offset. Used by `descriptions`.
 
 ghost use Rattle.std.specs.Prelude.{◌≡◌, ◌<◌, ℕ, IfSome, IsTrue, Some, length};
 ghost use Rattle.logos_html.specs.Imports.{IsDead, IsEnough, dfa_next, dfa_of};
@@ -10,10 +9,12 @@ use logos_automaton::dfa::{Dfa, StateId};
 /// The number of values of a byte.
 const BYTES: usize = 256;
 
-/// Returns how many first bytes of `rest` decide which matches start at its beginning: the number
-/// of bytes after which the automaton is in its dead state, or the length of `rest` if it never is.
+/// Returns the length of a prefix of `rest` that decides which matches start at the beginning of
+/// `rest`. This is the number of bytes after which the automaton is in its dead state, or the
+/// length of `rest` if the automaton never reaches that state.
+///
 /// Returns `None` if the automaton has no dead state, or if `rest` is longer than `most` bytes and
-/// fewer than `most` do not suffice.
+/// fewer than `most` bytes do not suffice.
 pub(crate) fn enough_bytes(dfa: &Dfa, rest: &[u8], most: usize) -> Option<usize>
     ensures { IfSome result (IsEnough (dfa_of dfa.now) rest.now) }
 {
@@ -34,8 +35,8 @@ pub(crate) fn enough_bytes(dfa: &Dfa, rest: &[u8], most: usize) -> Option<usize>
     Some(rest.len())
 }
 
-/// Returns whether a state has no leaf, and each byte and the end of the input lead from it to
-/// itself.
+/// Returns whether a state has no leaf, and each byte and the end of the input lead from the state
+/// back to itself.
 fn is_dead(dfa: &Dfa, state: StateId) -> bool
     requires { state.0 < length (dfa_of dfa.now).matches }
     ensures { IsTrue result → IsDead (dfa_of dfa.now) state.0 }
@@ -49,7 +50,7 @@ fn is_dead(dfa: &Dfa, state: StateId) -> bool
     stays(dfa, state)
 }
 
-/// Returns whether each byte leads from a state to itself.
+/// Returns whether each byte leads from a state back to the state itself.
 fn stays(dfa: &Dfa, state: StateId) -> bool
     requires { state.0 < length (dfa_of dfa.now).matches }
     ensures { IsTrue result → (b : ℕ) → b < 256 →

@@ -39,8 +39,8 @@ pub(crate) fn push_items(html: &mut Html, shown: ShownInput<'_, '_>, items: &[De
     push_bytes(html, part_of(shown, at, shown.end));
 }
 
-/// Appends the shown bytes from the offset `at` to an item, and the HTML span of the item. Moves
-/// `cursor` to the start of the item.
+/// Appends the shown bytes between the offset `at` and an item, and the HTML span of the item.
+/// Moves `cursor` to the start of the item.
 fn push_next(
     html: &mut Html,
     shown: ShownInput<'_, '_>,
@@ -154,8 +154,8 @@ fn priority_at(leaves: &[Leaf<'_>], leaf: usize) -> usize
     }
 }
 
-/// Appends the rest of the label of an item, which is its location and its span, and the attribute
-/// with its span for programs.
+/// Appends the rest of the label of an item, with the item's location and span, and the attribute
+/// with the item's span for programs.
 fn push_label_end(html: &mut Html, span: Span, location: Location)
     ensures { Gains (label_end span.from span.to location) html.old html.new }
 {
@@ -182,7 +182,7 @@ fn push_extent(html: &mut Html, span: Span)
     push_range(html, span);
 }
 
-/// Appends the end of the label of an item, and the attribute with its span for programs.
+/// Appends the end of the label of an item, and the attribute with the item's span for programs.
 fn push_data(html: &mut Html, span: Span)
     ensures { Gains (span_data span.from span.to) html.old html.new }
 {

@@ -14,8 +14,8 @@ const LISTED: usize = 1000;
 /// The maximum number of byte ranges that are shown for an edge.
 const RANGES: usize = 12;
 
-/// Appends the section of the states of a graph. If an input is shown, `entries` are the counts of
-/// how often its match attempts enter each state.
+/// Appends the section of the states of a graph. If the page shows an input, `entries` has the
+/// number of times that match attempts on the input enter each state.
 ///
 /// # Errors
 ///
@@ -43,8 +43,8 @@ entered. Sets of bytes are written as in a pattern.</p>
     Ok(())
 }
 
-/// Appends the head of the table. If `entries` are given, the meaning of their counts comes before
-/// it, and it has a column for them.
+/// Appends the head of the table. If `entries` is `Some`, the head has a column for the counts, and
+/// a sentence before the table explains them.
 fn push_head(html: &mut Html, entries: Option<&Entries>) {
     if let Some(entries) = entries {
         html.push_markup(
@@ -65,7 +65,8 @@ fn push_head(html: &mut Html, entries: Option<&Entries>) {
     html.push_markup("<th scope=\"col\">Edges</th></tr>\n</thead>\n<tbody>\n");
 }
 
-/// Appends the sentence that only the first states are listed, if `count` states are too many.
+/// Appends a sentence that states that only the first states are listed. Appends nothing if all
+/// `count` states are listed.
 fn push_cut(html: &mut Html, count: usize) {
     if count > LISTED {
         html.push_markup("<p class=\"cut\">The first ");
@@ -102,7 +103,8 @@ fn push_listed(
     Ok(())
 }
 
-/// Appends the cell with the number of entries of a state, or nothing if no entries were counted.
+/// Appends the cell with the number of times that a state is entered, or nothing if `entries` is
+/// `None`.
 fn push_count(html: &mut Html, number: usize, entries: Option<&Entries>) {
     if let Some(entries) = entries {
         html.push_markup("<td class=\"n\">");
@@ -111,7 +113,7 @@ fn push_count(html: &mut Html, number: usize, entries: Option<&Entries>) {
     }
 }
 
-/// Returns the count of the state with the number `state`, or 0 if there is none.
+/// Returns the count of the state with the number `state`, or 0 if there is no such state.
 fn count_at(counts: &[usize], state: usize) -> usize {
     match counts.get(state) {
         Some(count) => *count,
@@ -119,8 +121,8 @@ fn count_at(counts: &[usize], state: usize) -> usize {
     }
 }
 
-/// Appends the mark of a state, or nothing if the state has none. Of two marks only the early one
-/// is shown.
+/// Appends the mark of a state, or nothing if the state has no mark. If the state has two marks,
+/// only the early mark is shown.
 fn push_mark(html: &mut Html, graph: &Graph<'_>, state_type: StateType) {
     match (state_type.early, state_type.accept) {
         (Some(leaf), _) => {
@@ -148,7 +150,7 @@ fn push_edges(alloc: Global, html: &mut Html, state: &StateData) -> Result<(), A
     Ok(())
 }
 
-/// Appends the edge for the end of the input, or nothing for `None`.
+/// Appends the edge for the end of the input, or nothing if `end` is `None`.
 fn push_end_edge(html: &mut Html, end: Option<State>) {
     if let Some(target) = end {
         html.push_markup("<li>end of input to ");

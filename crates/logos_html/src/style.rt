@@ -1,8 +1,8 @@
-//! The style sheet of a page, which is part of the page, so that no other file is needed. Used by
+//! The style sheet of a page. It is a part of the page, so that no other file is needed. Used by
 //! `document`.
 
-/// The style sheet: for light and dark, narrow and wide screens, and for paper. The label and the
-/// description of an item are shown at the bottom while the item has the focus or the pointer.
+/// The style sheet for light and dark themes, narrow and wide screens, and paper. While an item has
+/// the focus or the pointer, the label and the description of the item are shown at the bottom.
 pub(crate) const STYLE: &str = "\
 :root {
   color-scheme: light dark; scroll-padding-bottom: 14rem;

@@ -5,18 +5,18 @@ ghost use Rattle.logos_inspect.specs.Views.{costs};
 
 use logos_code::code::Code;
 
-/// The cost of a lexer: the sizes of its code.
+/// The cost of a lexer, measured by the sizes of its code.
 #[derive(Clone, Copy, Debug, PartialEq, Eq)]
 pub struct Costs {
     /// The number of states.
     pub states: usize,
-    /// The number of bit tables, of 256 bytes each. A table holds eight tests of bytes.
+    /// The number of bit tables of 256 bytes each. Each table contains eight tests of bytes.
     pub bit_tables: usize,
-    /// The number of jump tables, of 256 entries each.
+    /// The number of jump tables of 256 entries each.
     pub jump_tables: usize,
 }
 
-/// Returns the cost of a lexer with this code.
+/// Returns the cost of a lexer with the code `code`.
 pub fn costs_of(code: &Code<'_>) -> Costs
     ensures { result ≡ costs code.now }
 {

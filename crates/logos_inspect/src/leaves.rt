@@ -1,4 +1,4 @@
-//! Makes the rows of leaves in a table. Used by `logos_answers`, `logos_html`, `logos_records` and
+//! Makes the rows of a table of leaves. Used by `logos_answers`, `logos_html`, `logos_records` and
 //! `logos_replies`.
 
 ghost use Rattle.std.specs.Prelude.{◌≡◌, ◌↔◌, IsTrue, IfOk, Some, option_map, option_copied};
@@ -11,30 +11,30 @@ use logos_token::error::Memory;
 use logos_token::token::{Literal, LiteralValue, Span};
 use std::alloc::Global;
 
-/// The row of a leaf in a table.
+/// The row of a leaf in a table of leaves.
 #[derive(Clone, Copy)]
 pub struct LeafRow<'l> {
     /// The name of the variant, or `None` for a skip.
     pub variant: Option<&'l str>,
-    /// Whether the leaf is a `token`, not a `regex` or a `skip`.
+    /// Whether the leaf is a `token`, as opposed to a `regex` or a `skip`.
     pub is_token: bool,
-    /// The literal as it is written, with the quotes.
+    /// The literal as written in the source, with its quotes.
     pub pattern: &'l str,
-    /// The options of the definition.
+    /// The options of the leaf's definition.
     pub options: LeafOptions,
     pub priority: usize,
-    /// Whether the priority is the default priority of the pattern.
+    /// Whether the priority is the default priority of the leaf's pattern.
     pub is_default: bool,
-    /// The callback as it is written, if there is one.
+    /// The callback as written in the source, if there is one.
     pub callback: Option<&'l str>,
-    /// The line of the file on which the literal begins, counted from 1.
+    /// The number of the line on which the literal begins in the file, counted from 1.
     pub line: usize,
 }
 
 /// Returns the row of a leaf.
 ///
-/// `lines` is the line index of the whole file, in which the enum begins at byte `offset`. `text`
-/// is the text of the enum, to which the spans of the leaf are relative.
+/// `lines` is the line index of the whole file, and `offset` is the byte offset of the enum in the
+/// file. `text` is the text of the enum, to which the spans of the leaf are relative.
 ///
 /// # Errors
 ///
@@ -61,7 +61,7 @@ pub fn row_of<'l>(
     })
 }
 
-/// Returns the name of the variant in the kind of a leaf, or `None` for a skip.
+/// Returns the name of a leaf's variant, or `None` for a skip. `kind` is the kind of the leaf.
 fn variant_name<'l>(kind: &'l VariantKind<'_>) -> Option<&'l str>
     ensures { option_copied result ≡ variant_name kind.now }
 {
@@ -72,7 +72,7 @@ fn variant_name<'l>(kind: &'l VariantKind<'_>) -> Option<&'l str>
     }
 }
 
-/// Returns whether a priority is the default one of a leaf with this pattern.
+/// Returns whether `priority` is the default priority of a leaf with the pattern `pattern`.
 fn has_default_priority(
     alloc: Global,
     pattern: &Pattern<'_>,
@@ -88,8 +88,8 @@ fn has_default_priority(
     Ok(default == Some(priority))
 }
 
-/// Returns the default priority of a `token` with the literal `text`, or `None` if the literal has
-/// no value.
+/// Returns the default priority of a `token` with the literal `text`. Returns `None` if the literal
+/// is neither a string nor a byte string.
 fn token_priority(alloc: Global, text: &str) -> Result<Option<usize>, Memory>
     ensures { IfOk result (λ priority. priority ≡ option_map held_priority (held text.now)) }
 {
@@ -105,7 +105,7 @@ fn token_priority(alloc: Global, text: &str) -> Result<Option<usize>, Memory>
     }
 }
 
-/// Returns a callback as it is written in `text`, or `None` if there is no callback.
+/// Returns a callback as written in `text`, or `None` if there is no callback.
 fn callback_text<'l>(text: &'l str, callback: Option<&Callback<'_>>) -> Option<&'l str>
     ensures { ShowsCallback text.now (option_copied callback.entry) (option_copied result) }
 {
@@ -115,7 +115,7 @@ fn callback_text<'l>(text: &'l str, callback: Option<&Callback<'_>>) -> Option<&
     }
 }
 
-/// Returns the part of `text` at a span, or an empty text if `text` has no such span.
+/// Returns the part of `text` at `span`, or an empty text if `text` has no such span.
 fn text_at(text: &str, span: Span) -> &str
     ensures { IsTextAt text.now span result.now }
 {
@@ -125,7 +125,7 @@ fn text_at(text: &str, span: Span) -> &str
     }
 }
 
-/// Returns the number of the file's line with the byte `offset + from`, counted from 1.
+/// Returns the line number, counted from 1, of the byte `offset + from` of the file.
 fn line_at(lines: &LineIndex<'_>, offset: usize, from: usize) -> usize
     ensures { result ≡ (location_at lines.now (moved offset from)).line }
 {

@@ -1,4 +1,4 @@
-//! The properties of a lexer that a program shows: its leaves and its cost. Called by
+//! Computes the properties of a lexer that programs show: its leaves and its cost. Used by
 //! `logos_answers`, `logos_records` and `logos_replies`.
 
 #![tactic(auto)]

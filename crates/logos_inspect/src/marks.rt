@@ -7,12 +7,13 @@ use logos_graph::graph::{Graph, StateType};
 use logos_hir::leaf::LeafId;
 use std::alloc::{AllocError, Global};
 
-/// Returns for each leaf of a graph, by its number, whether a state marks it.
+/// Returns an array with a flag for each leaf of a graph, by the leaf's number. The flag is `true`
+/// if at least one state marks the leaf.
 ///
-/// If a graph without faults does not mark a leaf, maximal munch never finds the leaf in any input:
-/// at each of its matches, another leaf has a longer match, or a match of equal length and a higher
-/// priority. A leaf that has only late marks may never be found either: each of its matches may be
-/// followed by a longer one.
+/// If a graph without faults does not mark a leaf, maximal munch never finds the leaf in any input.
+/// At each match of the leaf, another leaf has a longer match, or a match of equal length and a
+/// higher priority. Maximal munch may also never find a leaf that has only late marks: each match
+/// of the leaf may be followed by a longer one.
 ///
 /// # Errors
 ///
@@ -27,7 +28,7 @@ pub fn marked_leaves(alloc: Global, graph: &Graph<'_>) -> Result<Vec<bool>, Allo
     Ok(flags)
 }
 
-/// Sets to `true` the flags of the leaves that a state of this type marks.
+/// Sets to `true` the flag of each leaf that a state of the type `state_type` marks.
 fn add_marks(flags: &mut Vec<bool>, state_type: StateType)
     ensures count { length flags.new.items ≡ length flags.old.items }
     ensures each { (k : ℕ) → k < length flags.old.items → IsSet flags.new.items k
@@ -37,7 +38,7 @@ fn add_marks(flags: &mut Vec<bool>, state_type: StateType)
     add_mark(flags, state_type.early);
 }
 
-/// Sets the flag of `leaf` to `true`. Changes nothing for `None` or a leaf without a flag.
+/// Sets the flag of `leaf` to `true`. Does nothing if `leaf` is `None` or has no flag.
 fn add_mark(flags: &mut Vec<bool>, leaf: Option<LeafId>)
     ensures { AddsMark flags.old.items (option_map leaf_number leaf) flags.new.items }
 {

@@ -6,10 +6,10 @@ ghost use Rattle.logos_items.specs.Imports.{IsNoMisuse};
 use logos_host::{Failure, write_full};
 use std::io::Write;
 
-/// The least length of a full block, in bytes.
+/// The minimum length of a full block, in bytes.
 pub(crate) const BLOCK: usize = 65_536;
 
-/// Writes a block and empties it if it has at least `BLOCK` bytes, otherwise changes nothing.
+/// Writes and empties a block if it has at least `BLOCK` bytes, and changes nothing otherwise.
 ///
 /// # Errors
 ///

@@ -28,7 +28,7 @@ pub(crate) trait ItemBlock {
     fn text(&mut self) -> &mut Vec<u8>;
 }
 
-/// Writes each item of an input in blocks. The last items remain in `block` for the caller to
+/// Writes the items of an input in blocks. The last items remain in `block` for the caller to
 /// write.
 ///
 /// # Errors
@@ -59,7 +59,8 @@ pub(crate) fn write_all<B: ItemBlock, O: Write>(
     }
 }
 
-/// Writes each item of an input in blocks, found by a scan. The last items remain in `block`.
+/// Finds the items of an input by a scan, and writes them in blocks. The last items remain in
+/// `block`.
 fn write_by_chunks<C: Fn(LeafId, &[u8]) -> Action, B: ItemBlock, O: Write>(
     folded: &Folded<'_, '_>,
     input: &[u8],
@@ -80,7 +81,7 @@ fn write_by_chunks<C: Fn(LeafId, &[u8]) -> Action, B: ItemBlock, O: Write>(
     Ok(())
 }
 
-/// Writes each remaining item of a lexer in blocks. The last items remain in `block`.
+/// Writes the remaining items of a lexer in blocks. The last items remain in `block`.
 fn write_lexed<C: Fn(LeafId, &[u8]) -> Action, B: ItemBlock, O: Write>(
     lexer: &mut Lexer<'_, '_, '_, C>,
     block: &mut B,

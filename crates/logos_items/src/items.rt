@@ -17,7 +17,7 @@ use std::io::Write;
 use std::time::Clock;
 
 /// Writes a line for each item of an input, and then the counts. Returns the note about the
-/// callbacks of leaves that have items, which is empty if there are none.
+/// callbacks of leaves that have items. The note is empty if there are no such callbacks.
 ///
 /// # Errors
 ///

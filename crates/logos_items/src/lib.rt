@@ -1,5 +1,5 @@
-//! Writes the items of an input or of a stream in blocks: one line or one JSON object for each, and
-//! the counts. Called by `logos_show`.
+//! Writes the items of an input or of a stream in blocks, with one line or one JSON object for each
+//! item. The counts of the items follow the lines. Called by `logos_show`.
 
 #![tactic(auto)]
 

@@ -23,7 +23,7 @@ pub(crate) const ERROR: &[u8] = b"  <error>  \"";
 #[derive(Clone, Copy)]
 pub struct ItemOrder<'w> {
     pub alloc: Global,
-    /// The given settings.
+    /// The settings of the command line.
     pub settings: Settings<'w>,
     /// The form of the output.
     pub screen: Screen,
@@ -36,8 +36,8 @@ pub(crate) struct Lines {
     pub(crate) block: Vec<u8>,
     pub(crate) canvas: Canvas,
     pub(crate) counts: Counts,
-    /// The head of the lines of each leaf: the text between the location and the item's bytes,
-    /// which is the variant with separators.
+    /// For each leaf, the head of its lines: the text between the location and the item's bytes.
+    /// This text is the variant with separators.
     pub(crate) heads: Vec<Vec<u8>>,
 }
 
@@ -71,8 +71,8 @@ pub(crate) fn no_lines(order: ItemOrder<'_>, code: &Code<'_>) -> Result<Lines, A
     })
 }
 
-/// Appends the line of an item to `block`: its location, its head, which names it, and its bytes in
-/// quotes.
+/// Appends the line of an item to `block`: the location, the head with the item's name, and the
+/// bytes in quotes.
 ///
 /// # Errors
 ///
@@ -150,8 +150,8 @@ fn heads_of(alloc: Global, leaves: &[CodeLeaf<'_>]) -> Result<Vec<Vec<u8>>, Allo
     Ok(heads)
 }
 
-/// Returns the head of the lines of a variant. A skip has no lines, so the head is empty for
-/// `None`.
+/// Returns the head of the lines of the variant `name`. The head is empty if `name` is `None`,
+/// because a skip has no lines.
 fn head_of(alloc: Global, name: Option<&str>) -> Result<Vec<u8>, AllocError> {
     let mut head = Vec::new(alloc);
     if let Some(name) = name {
@@ -172,7 +172,7 @@ pub(crate) fn head_at(heads: &[Vec<u8>], leaf: usize) -> &[u8] {
     }
 }
 
-/// Returns the time of the clock, or `None` if it cannot be read.
+/// Returns the time of the clock, or `None` if the clock cannot be read.
 pub(crate) fn now<C: Clock>(clock: &C) -> Option<Duration> {
     match clock.monotonic() {
         Ok(time) => Some(time),
@@ -180,8 +180,8 @@ pub(crate) fn now<C: Clock>(clock: &C) -> Option<Duration> {
     }
 }
 
-/// Returns the milliseconds from `start` to `end`, or `None` if a time is unknown, `end` is earlier
-/// or the number exceeds `usize::MAX`.
+/// Returns the milliseconds from `start` to `end`. Returns `None` if a time is unknown, if `end` is
+/// earlier than `start`, or if the number exceeds `usize::MAX`.
 pub(crate) fn milliseconds(start: Option<Duration>, end: Option<Duration>) -> Option<usize> {
     let passed = end?.checked_sub(start?)?;
     match usize::try_from(passed.as_millis()) {

@@ -16,7 +16,7 @@ use std::io::Write;
 use std::mem;
 
 /// Writes a JSON object for each item of an input. Returns the note about the callbacks of leaves
-/// that have items, which is empty if there are none.
+/// that have items. The note is empty if there are no such callbacks.
 ///
 /// # Errors
 ///
@@ -92,7 +92,8 @@ fn write_records<C: Fn(LeafId, &[u8]) -> Action, O: Write>(
     Ok(())
 }
 
-/// Adds the object of an item to `records`, and counts the item. Moves `cursor` to its start.
+/// Adds the object of an item to `records`, and counts the item. Moves `cursor` to the start of the
+/// item.
 fn add_record(
     records: &mut Records,
     leaves: &[CodeLeaf<'_>],
@@ -127,7 +128,7 @@ fn add_record(
     }
 }
 
-/// Appends an object to a block. If memory runs out, the block is empty afterwards.
+/// Appends an object to a block. If memory runs out, the block becomes empty.
 fn push_record(
     alloc: Global,
     block: &mut Vec<u8>,

@@ -19,12 +19,12 @@ use std::alloc::{AllocError, Global};
 use std::io::{ErrorKind, Input, Read, Write};
 use std::time::Clock;
 
-/// The maximum number of bytes of standard input in memory. A longer match is refused.
+/// The maximum number of bytes of standard input in memory. A match with more bytes is refused.
 const MOST: usize = 16_777_216;
 
 /// Writes a line for each item of standard input, and then the counts. Before each read, the items
-/// found so far are written. Returns the note about the callbacks of leaves that have items, which
-/// is empty if there are none.
+/// found so far are written. Returns the note about the callbacks of leaves that have items. The
+/// note is empty if there are no such callbacks.
 ///
 /// # Errors
 ///
@@ -60,14 +60,14 @@ pub fn write_streamed<S: Clock + Input, O: Write>(
     Ok(note)
 }
 
-/// A reason that a stream is not lexed to its end.
+/// The reason why a stream is not lexed to its end.
 #[derive(Clone, Copy)]
 enum StreamStop {
     NotUtf8,
     TooLong,
 }
 
-/// Returns the failure for a stream that is lexed only up to an offset, in bytes.
+/// Returns the failure for a stream that is lexed only up to the byte offset `offset`.
 fn failure_at(alloc: Global, stop: StreamStop, offset: usize) -> Failure<'static>
     ensures { IsNoMisuse result }
 {
@@ -79,8 +79,8 @@ fn failure_at(alloc: Global, stop: StreamStop, offset: usize) -> Failure<'static
     }
 }
 
-/// Returns the refusal of a match that begins at an offset of standard input, in bytes, and is too
-/// long.
+/// Returns the failure for a match that is too long and begins at the byte offset `offset` of
+/// standard input.
 fn too_long(alloc: Global, offset: usize) -> Failure<'static>
     ensures { IsNoMisuse result }
 {
@@ -94,8 +94,8 @@ fn too_long(alloc: Global, offset: usize) -> Failure<'static>
 }
 
 /// Writes a line for each item of a stream in blocks. The last lines remain in `lines` for the
-/// caller to write. Returns the reason that the stream was not lexed to its end, or `None` if it
-/// was.
+/// caller to write. Returns the reason why the stream was not lexed to its end, or `None` if it was
+/// lexed to its end.
 fn write_stream<R: Read + Drop, C: Fn(LeafId, &[u8]) -> Action + Copy, O: Write>(
     stream: &mut Stream<'_, '_, R, C>,
     lines: &mut Lines,
@@ -143,7 +143,8 @@ fn add_item(
     }
 }
 
-/// Writes the lines of the items found so far, and reads once. An interrupted read is no failure.
+/// Writes the lines of the items found so far, and reads once. An interrupted read is not a
+/// failure.
 fn read_more<R: Read + Drop, C: Fn(LeafId, &[u8]) -> Action + Copy, O: Write>(
     stream: &mut Stream<'_, '_, R, C>,
     lines: &mut Lines,
@@ -162,8 +163,8 @@ fn read_more<R: Read + Drop, C: Fn(LeafId, &[u8]) -> Action + Copy, O: Write>(
     }
 }
 
-/// Writes the lines that have not been written, if there are any. None remain, even if writing
-/// fails.
+/// Writes the lines that have not been written, if there are any, and removes them. The lines are
+/// removed even if writing fails.
 fn write_found<O: Write>(lines: &mut Lines, out: &mut O) -> Result<(), Failure<'static>>
     ensures { IfErr result IsNoMisuse }
 {
@@ -188,7 +189,7 @@ fn after(location: Location, bytes: &[u8]) -> Location {
 }
 
 /// Returns the location after a byte at `location`. Continuation bytes of a character do not change
-/// it.
+/// the location.
 #[inline(always)]
 fn after_byte(location: Location, byte: u8) -> Location {
     if byte == b'\n' {

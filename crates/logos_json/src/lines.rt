@@ -30,7 +30,7 @@ impl Model for JsonLines {
 }
 
 impl JsonLines {
-    /// Returns lines that begin with the bytes `out`, to which an empty line is appended.
+    /// Returns lines of JSON that follow the bytes `out`, beginning with an empty line.
     pub fn new(alloc: Global, out: Vec<u8>) -> JsonLines
         ensures { result ≡ record { before = out.items; tokens = []; is_whole = true } }
     {
@@ -77,7 +77,7 @@ impl JsonLines {
         }
     }
 
-    /// Appends the name of a member, whose value is pushed next.
+    /// Appends the name of a member. The value of the member is appended next.
     pub fn push_name(&mut self, name: &str)
         ensures { Gains (key name.now ∷ []) self.old self.new }
     {
@@ -86,7 +86,7 @@ impl JsonLines {
         }
     }
 
-    /// Appends the beginning of a member with a list, whose elements are pushed next.
+    /// Appends the beginning of a member with a list. The elements of the list are appended next.
     pub fn begin_list(&mut self, name: &str)
         ensures { Gains (key name.now ∷ begin_array ∷ []) self.old self.new }
     {
@@ -94,7 +94,7 @@ impl JsonLines {
         self.begin_array();
     }
 
-    /// Appends a text, as the value of a member.
+    /// Appends a text as the value of a member.
     fn string(&mut self, text: &str)
         ensures { Gains (string text.now ∷ []) self.old self.new }
     {
@@ -103,7 +103,7 @@ impl JsonLines {
         }
     }
 
-    /// Appends a number, as the value of a member or an element of a list.
+    /// Appends a number as the value of a member or as an element of a list.
     fn number(&mut self, value: usize)
         ensures { Gains (number (decimal value) ∷ []) self.old self.new }
     {
@@ -112,7 +112,7 @@ impl JsonLines {
         }
     }
 
-    /// Appends a boolean, as the value of a member.
+    /// Appends a boolean as the value of a member.
     fn boolean(&mut self, value: bool)
         ensures { Gains (boolean value ∷ []) self.old self.new }
     {
@@ -121,7 +121,7 @@ impl JsonLines {
         }
     }
 
-    /// Appends null, as the value of a member.
+    /// Appends null as the value of a member.
     fn null(&mut self)
         ensures { Gains (null ∷ []) self.old self.new }
     {
@@ -162,7 +162,7 @@ impl JsonLines {
         self.null();
     }
 
-    /// Appends a member with a text, or with null for `None`.
+    /// Appends a member with a text, or with null if `text` is `None`.
     pub fn push_maybe_text(&mut self, name: &str, text: Option<&str>)
         ensures { Gains (maybe_text name.now (option_map (λ t. t.now) text.entry)) self.old self.new }
     {
@@ -172,7 +172,7 @@ impl JsonLines {
         }
     }
 
-    /// Appends a member with a number, or with null for `None`.
+    /// Appends a member with a number, or with null if `value` is `None`.
     pub fn push_maybe_number(&mut self, name: &str, value: Option<usize>)
         ensures { Gains (maybe_number name.now value) self.old self.new }
     {
@@ -182,7 +182,7 @@ impl JsonLines {
         }
     }
 
-    /// Appends a member with bytes: a text if they are UTF-8, otherwise a list of numbers.
+    /// Appends a member with bytes: a text if the bytes are UTF-8, and a list of numbers otherwise.
     pub fn push_bytes(&mut self, name: &str, bytes: &[u8])
         ensures { Gains (bytes_member name.now bytes.now) self.old self.new }
     {
@@ -192,7 +192,7 @@ impl JsonLines {
         }
     }
 
-    /// Appends a member with bytes, as `push_bytes` does, or with null for `None`.
+    /// Appends a member with bytes as `push_bytes` does, or with null if `bytes` is `None`.
     pub fn push_maybe_bytes(&mut self, name: &str, bytes: Option<&[u8]>)
         ensures { Gains (maybe_bytes name.now (option_map (λ b. b.now) bytes.entry)) self.old
             self.new }
@@ -203,7 +203,7 @@ impl JsonLines {
         }
     }
 
-    /// Appends a member with a list of the bytes as numbers.
+    /// Appends a member with a list of `bytes` as numbers.
     fn push_list(&mut self, name: &str, bytes: &[u8])
         ensures { Gains (list_member name.now (flat_map byte_tokens bytes.now)) self.old self.new }
     {
@@ -212,7 +212,7 @@ impl JsonLines {
         self.end_list();
     }
 
-    /// Appends the bytes as numbers, which are elements of a list.
+    /// Appends `bytes` as numbers that are elements of a list.
     fn push_elements(&mut self, bytes: &[u8])
         ensures { Gains (flat_map byte_tokens bytes.now) self.old self.new }
     {
@@ -221,7 +221,7 @@ impl JsonLines {
         }
     }
 
-    /// Appends LF, which ends the line, and begins an empty line.
+    /// Ends the line with LF, and begins an empty line.
     pub fn end_line(&mut self)
         ensures { Ends self.old self.new }
     {
@@ -232,8 +232,8 @@ impl JsonLines {
         self.is_whole = self.is_whole & is_ended;
     }
 
-    /// Returns the bytes with which the value was made, and the bytes of all lines. The last line
-    /// must have been ended.
+    /// Returns the bytes with which the value was made, followed by the bytes of all lines. The
+    /// last line must have been ended.
     ///
     /// # Errors
     ///

@@ -4,8 +4,9 @@
 ghost use Rattle.std.specs.Prelude.{codes};
 ghost use Rattle.logos_laws.specs.lexemes.Imports.{Apostrophes, Block, Bytes, C, Doc, Gap, Line, OpensBlock, OpensBlockDoc, OpensBy, OpensLine, OpensLineDoc, OpensNumber, OpensRaw, Quotes, Text};
 
-/// A digit opens a number, and a quote a string. Letters before a quote, `#` and `'` open the other
-/// literals. Two signs open a comment, and the bytes after them decide whether it is documentation.
+/// A digit opens a number, and a quote opens a string. Letters before a quote, `#` and `'` open the
+/// other literals. Two characters open a comment, and the bytes after them decide whether the
+/// comment is documentation.
 pub fn openings_by_text()
     ensures numbers { OpensNumber }
     ensures strings { OpensBy (codes "\"") (Quotes Text) × OpensBy (codes "b\"") (Quotes Bytes)

@@ -1,6 +1,6 @@
-//! Laws that restate definitions of the crates below in another form, which is easier to check by
-//! reading: the pieces of an attribute one after another, and the result of stripping, part by
-//! part.
+//! Laws that restate definitions of other crates in a form that is easier to check by reading. For
+//! example, they describe the pieces of an attribute one after another, and the result of stripping
+//! part by part.
 //!
 //! No code calls these functions: the contract of each is a proved law.
 
@@ -8,17 +8,17 @@ ghost use Rattle.std.specs.Prelude.{◌≡◌, ◌<◌, ◌≤◌, ◌↔◌, �
 ghost use Rattle.logos_laws.specs.readings.Imports.{EnumValue, Piece, Reads, TokenList, pieces, stripped, in_file, moved, InReport, OccurInOrder, ArePieces, EnumStays, IsBytes, Matches, MatchesInOrder, SomeMatches, Tree, repetition, trees, alternation_of, concat_of, repetition_of};
 ghost use Rattle.logos_laws.specs.readings.Imports.{AreFew, AreOfVariant, CodeLeaf, HaveNoSets, Refused, SourceValue, all_faults, all_lines, code_variant, lines_from, refused_texts, variant_line};
 
-/// The pieces of an argument are its first piece, and then the pieces of the tokens after that
-/// piece and its comma.
+/// The pieces of an argument are its first piece, followed by the pieces of the tokens after the
+/// first piece and its comma.
 pub fn pieces_in_turn()
     ensures are { (run : TokenList) → ArePieces run (pieces run) }
     ensures only { (run : TokenList) (list : List Piece) → ArePieces run list →
         list ≡ pieces run }
 {}
 
-/// The result of stripping an enum is exactly this: its attributes, those of its variants and those
-/// of their fields without the helper attributes, the lists of the enum's `derive`s without the
-/// entries that name the macro, and all other tokens.
+/// Stripping an enum removes exactly the helper attributes of the enum, of its variants and of
+/// their fields, and the entries of the enum's `derive`s that name the macro. All other tokens are
+/// unchanged.
 pub fn strips_by_parts()
     ensures are { (tokens : TokenList) (value : EnumValue) → Reads tokens (Ok value) →
         EnumStays value tokens (stripped tokens) }
@@ -26,8 +26,8 @@ pub fn strips_by_parts()
         EnumStays value tokens remaining → remaining ≡ stripped tokens }
 {}
 
-/// An offset in a part of a file, counted from the beginning of the file, is the sum of that offset
-/// and the offset of the part, if the sum is less than 2^64.
+/// The offset of a point in a file is the sum of its offset in a part of the file and the offset of
+/// this part, if the sum is less than 2^64.
 pub fn offsets_are_sums()
     ensures report { (begin offset : ℕ) → offset + begin < 2 ^ 64 →
         in_file begin offset ≡ offset + begin }
@@ -35,16 +35,16 @@ pub fn offsets_are_sums()
         moved begin offset ≡ begin + offset }
 {}
 
-/// The lines of a report occur in the report in order, by the definition of this that is used for
-/// the generated code of a lexer.
+/// The lines of a report occur in the report in order. The law uses the definition of
+/// `OccurInOrder` that is also used for generated code.
 pub fn report_lines_occur()
     ensures { (is_colored : Bool) (lines : List (List ℕ)) (whole : List ℕ) →
         InReport is_colored lines whole → OccurInOrder lines whole }
 {}
 
-/// A tree that is built from parts, from branches or from a repetition, in its simplest form, has
-/// exactly the matches of the parts one after another, of one of the branches, or of the
-/// repetition.
+/// The simplest form of a tree that is built from parts, branches or a repetition has exactly the
+/// matches of the parts one after another, of one of the branches, or of the repetition,
+/// respectively.
 pub fn builders_change_no_match()
     ensures parts { (parts : List Tree) (bytes : List ℕ) (from to : ℕ) →
         Matches (concat_of parts) bytes from to ↔ MatchesInOrder (trees parts) bytes from to }
@@ -58,17 +58,17 @@ pub fn builders_change_no_match()
         ↔ Matches (repetition least most greedy body) bytes from to }
 {}
 
-/// A report in which at most 50 faults have the same code, and in which no set of ambiguous leaves
-/// has a clue, has the lines of each fault, in order, and no others.
+/// A report consists of exactly the lines of each fault, in order, if at most 50 faults have the
+/// same code and no set of ambiguous leaves has a clue.
 pub fn short_reports_are_whole()
     ensures { (is_colored : Bool) (source : SourceValue) (parts : List Refused) →
         HaveNoSets parts → AreFew (all_faults parts) →
         refused_texts is_colored source parts ≡ all_lines is_colored source parts }
 {}
 
-/// If consecutive leaves are the remaining leaves of a variant, the next line of the totals has the
-/// sum of their numbers of items, or 2^64 - 1 if the sum is greater. There is no such line if the
-/// sum is 0. The lines after it are those of the leaves after them.
+/// If consecutive leaves are the remaining leaves of a variant, the next line of the totals
+/// contains the sum of their numbers of items, or 2^64 - 1 if the sum is greater. There is no such
+/// line if the sum is 0. The lines of the later leaves follow.
 pub fn totals_are_sums()
     ensures { (leaves : List CodeLeaf) (counts : List ℕ) (from size last total left : ℕ) →
         AreOfVariant leaves counts from size last total →

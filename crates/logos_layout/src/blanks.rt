@@ -1,14 +1,14 @@
-//! Decides on the blanks between the lexemes of a line. Called by `state`.
+//! Decides whether a blank separates two neighboring lexemes of a line. Called by `state`.
 
 use crate::classes::{LexemeClass, Role};
 use logos_token::token::Delimiter;
 
 /// Returns whether a line has a blank between the neighboring lexemes `last` and `next`. `has_gap`
-/// is whether the text has a gap between them. Without a gap, a blank is only inserted after a
+/// is `true` if the text has a gap between them. Without a gap, a blank is inserted only after a
 /// comma.
 ///
-/// Punctuation that is not joint to other punctuation keeps its blank, and so do two neighboring
-/// names or literals. Thus the tokens do not change.
+/// A gap between two characters of punctuation always becomes a blank, and so does a gap between
+/// two names or literals. Thus the tokens do not change.
 pub(crate) fn is_blank(last: LexemeClass, next: LexemeClass, has_gap: bool) -> bool {
     if !has_gap {
         return is_after_comma(last, next);
@@ -19,8 +19,8 @@ pub(crate) fn is_blank(last: LexemeClass, next: LexemeClass, has_gap: bool) -> b
     !(is_tight_after(last, next) | is_tight_before(last, next))
 }
 
-/// Returns whether a blank is inserted between `last` and `next`, which have no gap between them:
-/// after a comma, except before punctuation or a closing delimiter.
+/// Returns whether a blank is inserted between two lexemes that have no gap between them. A blank
+/// is inserted after a comma, except before punctuation or a closing delimiter.
 fn is_after_comma(last: LexemeClass, next: LexemeClass) -> bool {
     matches!(last, LexemeClass::Sign(Role::Comma))
         & !matches!(next, LexemeClass::Sign(_) | LexemeClass::Closing(_))
@@ -62,7 +62,7 @@ fn is_tight_before(last: LexemeClass, next: LexemeClass) -> bool {
     }
 }
 
-/// Returns whether a `(` or `[` after a lexeme of the class `last` belongs to that lexeme, as in a
+/// Returns whether a `(` or `[` after a lexeme of the class `last` belongs to the lexeme, as in a
 /// call.
 fn is_called(last: LexemeClass) -> bool {
     matches!(

@@ -1,21 +1,20 @@
-//! Classes of lexemes, which determine the layout around them. Used by `blanks`, `line_breaks` and
-//! `state`.
+//! The classes of lexemes. The class of a lexeme determines the layout around the lexeme. Used by
+//! `blanks`, `line_breaks` and `state`.
 
 use logos_token::token::{Delimiter, Spacing};
 
-/// The class of a lexeme, which determines the layout around it.
+/// The class of a lexeme. The class determines the layout around the lexeme.
 #[derive(Clone, Copy, PartialEq, Eq)]
 pub(crate) enum LexemeClass {
     /// No lexeme: the beginning of the text.
     Start,
-    /// A name that a keyword before it declares, or one with an upper-case first letter and a
-    /// lower-case second letter.
+    /// A name after a keyword that declares it, or another name that looks like the name of a type.
     TypeName,
     /// A keyword that declares a name.
     Declaring,
     /// The keyword `else`.
     Else,
-    /// Any other keyword that an operand, a pattern or a name follows.
+    /// Any other keyword that precedes an operand, a pattern or a name.
     Keyword,
     /// The name of a lifetime or a label, without its apostrophe.
     Lifetime,
@@ -48,7 +47,7 @@ pub(crate) enum Role {
     Apostrophe,
     /// `#`
     Hash,
-    /// The second `:` of a path.
+    /// The second `:` of the `::` in a path.
     PathMark,
     /// Any other `:`.
     Colon,
@@ -58,7 +57,7 @@ pub(crate) enum Role {
     ClosesTypes,
     /// The `!` after the name of a macro.
     MacroMark,
-    /// A character before an operand, such as the `&` of a reference, or a `$`.
+    /// An operator before its operand, such as the `&` of a reference, or the character `$`.
     Prefix,
     /// A `-` or `=` that may begin an arrow: `->` or `=>`.
     Arrow,
@@ -69,7 +68,7 @@ pub(crate) enum Role {
 /// The keywords that declare a name.
 const DECLARING: [&str; 7] = ["enum", "fn", "impl", "struct", "trait", "type", "union"];
 
-/// The other keywords that an operand, a pattern or a name follows, except `else`.
+/// The other keywords that precede an operand, a pattern or a name, except `else`.
 const KEYWORDS: [&str; 18] = [
     "as", "break", "const", "dyn", "for", "if", "in", "let", "loop", "match", "move", "mut", "ref",
     "return", "static", "use", "where", "while",
@@ -84,7 +83,7 @@ pub(crate) fn class_of_name(name: &str, last: LexemeClass) -> LexemeClass {
     }
 }
 
-/// Returns the class of the name or keyword `name`, whatever the lexeme before it is.
+/// Returns the class of the name or keyword `name`, regardless of the preceding lexeme.
 fn class_of_word(name: &str) -> LexemeClass {
     if name == "else" {
         return LexemeClass::Else;
@@ -111,8 +110,8 @@ fn is_in(name: &str, words: &[&str]) -> bool {
     false
 }
 
-/// Returns whether a name looks like that of a type: whether it begins with an upper-case letter
-/// and a lower-case one, perhaps after one `_`.
+/// Returns whether `name` looks like the name of a type: whether it begins with an upper-case
+/// letter and a lower-case letter, optionally after one `_`.
 fn is_type_name(name: &[u8]) -> bool {
     match name {
         [b'_', first, second, ..] => first.is_ascii_uppercase() & second.is_ascii_lowercase(),
@@ -126,7 +125,7 @@ fn is_type_name(name: &[u8]) -> bool {
 pub(crate) struct Punctuation {
     /// The character.
     pub(crate) character: u8,
-    /// Whether more punctuation follows directly.
+    /// Whether another character of punctuation follows without a gap.
     pub(crate) spacing: Spacing,
     /// The class of the lexeme before the character.
     pub(crate) last: LexemeClass,
@@ -157,8 +156,8 @@ pub(crate) fn role_of(sign: Punctuation) -> Role {
     }
 }
 
-/// Returns the role of a `:` after a lexeme of the class `last`. The second of two ends the `::` of
-/// a path.
+/// Returns the role of a `:` after a lexeme of the class `last`. The second of two colons ends the
+/// `::` of a path.
 fn colon_role(last: LexemeClass) -> Role {
     match last {
         LexemeClass::Sign(Role::Colon) => Role::PathMark,
@@ -166,9 +165,10 @@ fn colon_role(last: LexemeClass) -> Role {
     }
 }
 
-/// Returns the role of a `<` after a lexeme of the class `last`. It opens a list of types after the
-/// name of a type, after a keyword that declares a name, after the `::` of a path, and before an
-/// operand. `is_second` is whether no gap separates the two.
+/// Returns the role of a `<` after a lexeme of the class `last`. The `<` opens a list of types
+/// after the name of a type, after a keyword that declares a name, after the `::` of a path, and
+/// where an operand can follow. `is_second` is `true` if no gap separates the `<` from the lexeme
+/// before it.
 fn less_role(last: LexemeClass, is_second: bool) -> Role {
     match last {
         LexemeClass::TypeName | LexemeClass::Declaring | LexemeClass::Sign(Role::PathMark) =>
@@ -178,8 +178,8 @@ fn less_role(last: LexemeClass, is_second: bool) -> Role {
     }
 }
 
-/// Returns the role of a `>` after a lexeme of the class `last`. It closes a list of types if one
-/// is open, unless it ends an arrow. `has_types` is whether one is open.
+/// Returns the role of a `>` after a lexeme of the class `last`. `has_types` is `true` if a list of
+/// types is open. The `>` closes this list, unless it ends an arrow.
 fn greater_role(last: LexemeClass, has_types: bool) -> Role {
     match last {
         LexemeClass::Sign(Role::Arrow) => Role::Operator,
@@ -188,14 +188,15 @@ fn greater_role(last: LexemeClass, has_types: bool) -> Role {
     }
 }
 
-/// Returns whether a `!` after a lexeme of the class `last` ends the name of a macro: whether it is
-/// not joint to punctuation, and follows a name.
+/// Returns whether a `!` after a lexeme of the class `last` marks the name of a macro: whether it
+/// follows a name, and no other punctuation follows it without a gap.
 fn is_macro_mark(last: LexemeClass, spacing: Spacing) -> bool {
     matches!(last, LexemeClass::Name | LexemeClass::TypeName) & matches!(spacing, Spacing::Alone)
 }
 
-/// Returns whether a character after a lexeme of the class `last` precedes an operand, and is not
-/// the second one of an operator. `is_second` is whether no gap separates the two.
+/// Returns whether a character after a lexeme of the class `last` begins an operand: whether an
+/// operand can follow the lexeme, and the character is not the second one of an operator.
+/// `is_second` is `true` if no gap separates the character from the lexeme.
 fn is_prefix(last: LexemeClass, is_second: bool) -> bool {
     let is_operator = matches!(last, LexemeClass::Sign(Role::Operator | Role::Arrow));
     is_before_operand(last) & !(is_operator & is_second)

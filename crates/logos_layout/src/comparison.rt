@@ -8,7 +8,7 @@ use logos_token::token::{TokenError, print, tokenize};
 use std::alloc::Global;
 
 /// Returns whether `text` and `other` spell equal tokens, apart from their spans. Returns `false`
-/// if one of them cannot be read into tokens.
+/// if one of the texts cannot be read into tokens.
 pub(crate) fn spell_same(alloc: Global, text: &str, other: &str) -> Result<bool, Memory>
     ensures { IfOk result (λ same. IsTrue same → SpellsSame text.now other.now) }
 {

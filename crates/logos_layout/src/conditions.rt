@@ -1,4 +1,4 @@
-//! Copies the conditions under which an item is compiled. Used by `logos_expand`.
+//! Copies the `cfg` attributes of an item. Used by `logos_expand`.
 
 ghost use Rattle.std.specs.Prelude.{◌≡◌, ◌++◌, OnOk, codes, string_bytes};
 ghost use Rattle.logos_layout.specs.Imports.{after_word, attribute_condition, attribute_text, attribute_value, conditions_text, text_if, tokens_of};
@@ -9,8 +9,8 @@ use logos_token::token::{Tokens, print};
 use logos_token::util::after_word;
 use std::alloc::Global;
 
-/// Appends to `text` the `cfg` attributes among the leading attributes of the item with the tokens
-/// `item`, each on a line.
+/// Appends the `cfg` attributes among the leading attributes of an item to `text`, each on its own
+/// line. `item` are the tokens of the item.
 ///
 /// # Errors
 ///
@@ -27,7 +27,7 @@ pub fn push_conditions(alloc: Global, text: &mut String, item: Tokens<'_, '_>) -
     Ok(())
 }
 
-/// Appends `attribute` to `text`, on a line, if it is a `cfg` attribute.
+/// Appends `attribute` to `text`, on its own line, if it is a `cfg` attribute.
 fn push_condition(
     alloc: Global,
     text: &mut String,
@@ -42,8 +42,8 @@ fn push_condition(
     }
 }
 
-/// Appends to `text` the attribute with the tokens `run` between its brackets, on a line, if it is
-/// a `cfg` attribute.
+/// Appends an attribute to `text`, on its own line, if it is a `cfg` attribute. `run` are the
+/// tokens between the brackets of the attribute.
 fn push_if_condition(alloc: Global, text: &mut String, run: Tokens<'_, '_>) -> Result<(), Memory>
     ensures { OnOk result (string_bytes text.new ≡ string_bytes text.old
         ++ text_if (after_word (codes "cfg") (tokens_of run.entry)) (tokens_of run.entry)) }
@@ -54,7 +54,8 @@ fn push_if_condition(alloc: Global, text: &mut String, run: Tokens<'_, '_>) -> R
     }
 }
 
-/// Appends to `text` the attribute with the tokens `run` between its brackets, on a line.
+/// Appends an attribute to `text`, on its own line. `run` are the tokens between the brackets of
+/// the attribute.
 fn push_attribute(alloc: Global, text: &mut String, run: Tokens<'_, '_>) -> Result<(), Memory>
     ensures { OnOk result (string_bytes text.new
         ≡ string_bytes text.old ++ attribute_text (tokens_of run.entry)) }

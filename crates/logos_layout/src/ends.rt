@@ -1,4 +1,4 @@
-//! Checks how the tokens of a text end. Used by `layout`.
+//! Checks whether a text ends with a group in braces. Used by `layout`.
 
 ghost use Rattle.std.specs.Prelude.{◌≡◌, IfOk, IsTrue, Some};
 ghost use Rattle.logos_layout.specs.Imports.{EndsWithBraces, IsClosed, braces_end, tokens_of, tree_of};

@@ -1,4 +1,4 @@
-//! Puts the documentation and the attributes of a file itself, at its beginning, into plain
+//! Turns the inner documentation and the inner attributes at the beginning of a file into plain
 //! comments. Used by `logos_expand`.
 
 ghost use Rattle.std.specs.Prelude.{◌≡◌, ◌<◌, IfOk, IfSome, IsTrue, MatchOption, None, Some, string_bytes};
@@ -16,12 +16,13 @@ pub fn has_inner(tokens: Tokens<'_, '_>) -> bool {
     read_inner(tokens).0 > 0
 }
 
-/// Returns a Rust file with plain comments in place of the inner documentation and the inner
-/// attributes with which it begins: `//!` becomes `//`, `/*!` becomes `/*`, and `#![..]` is put
-/// into `/* */`. Another file can then include it. The tokens after the comments are unchanged.
+/// Returns a Rust file with its leading inner documentation and inner attributes turned into plain
+/// comments: `//!` becomes `//`, `/*!` becomes `/*`, and `#![..]` is put into `/* */`. Another file
+/// can then include the result. The tokens after the comments are unchanged.
 ///
 /// Returns `None` if the file cannot be read into tokens, if it does not begin with inner
-/// documentation or inner attributes, or if an attribute would end the comment around it.
+/// documentation or inner attributes, or if the text of an attribute would end the comment around
+/// the attribute.
 ///
 /// # Errors
 ///
@@ -64,8 +65,8 @@ fn without_front(
 }
 
 /// Returns the plain comments that replace `front`, a text of inner documentation comments and
-/// attributes. Returns `None` if the text is empty or spells anything else, or if the comments
-/// would spell tokens.
+/// inner attributes. Returns `None` if `front` is empty, if it spells anything else, or if the
+/// comments would spell tokens.
 fn plain_comments(alloc: Global, front: &str) -> Result<Option<String>, Memory>
     ensures { IfOk result (λ found. IfSome found
         (λ plain. IsInnerText front.now × Spells (string_bytes plain) none)) }
@@ -80,8 +81,8 @@ fn plain_comments(alloc: Global, front: &str) -> Result<Option<String>, Memory>
     Ok(None)
 }
 
-/// Returns whether a text spells only inner documentation comments and attributes. Returns `false`
-/// if the text cannot be read into tokens.
+/// Returns whether a text spells only inner documentation comments and inner attributes. Returns
+/// `false` if the text cannot be read into tokens.
 fn is_inner_text(alloc: Global, text: &str) -> Result<bool, Memory>
     ensures { IfOk result (λ is. IsTrue is → IsInnerText text.now) }
 {
@@ -103,8 +104,8 @@ fn is_bare(alloc: Global, text: &str) -> Result<bool, Memory>
     }
 }
 
-/// Returns whether a run consists of inner documentation comments and attributes alone, or is
-/// empty.
+/// Returns whether a run consists only of inner documentation comments and inner attributes.
+/// Returns `true` for an empty run.
 fn is_all_inner(run: Tokens<'_, '_>) -> bool
     ensures { IsTrue result → FollowsInner (tokens_of run.entry) none }
 {
@@ -112,7 +113,8 @@ fn is_all_inner(run: Tokens<'_, '_>) -> bool
 }
 
 /// Returns the byte offset in the source at which the leading inner documentation comments and
-/// attributes of a run end, or 0 if there are none, and the tokens after them.
+/// inner attributes of a run end, and the tokens after them. The offset is 0 if the run does not
+/// begin with any.
 fn read_inner<'t, 's>(run: Tokens<'t, 's>) -> (usize, Tokens<'t, 's>)
     ensures { FollowsInner (tokens_of run.entry) (tokens_of result.1) }
 {
@@ -125,9 +127,8 @@ fn read_inner<'t, 's>(run: Tokens<'t, 's>) -> (usize, Tokens<'t, 's>)
     (end, rest)
 }
 
-/// Returns the byte offset in the source at which the inner documentation comment or attribute ends
-/// with which a run begins, and the tokens after it. Returns `None` if the run does not begin with
-/// one.
+/// Returns the byte offset in the source at which the first inner documentation comment or inner
+/// attribute of a run ends, and the tokens after it. Returns `None` if the run begins with neither.
 fn inner_at<'t, 's>(tokens: Tokens<'t, 's>) -> Option<(usize, Tokens<'t, 's>)>
     ensures { MatchOption result (after_inner (tokens_of tokens.entry) ≡ None)
         (λ read. (after_inner (tokens_of tokens.entry) ≡ Some (tokens_of read.1))
@@ -140,8 +141,8 @@ fn inner_at<'t, 's>(tokens: Tokens<'t, 's>) -> Option<(usize, Tokens<'t, 's>)>
     }
 }
 
-/// Returns the byte offset in the source at which the brackets end if a run begins with `!` and
-/// brackets, and the tokens after them. Returns `None` for any other run.
+/// Returns the byte offset in the source at which the brackets end, and the tokens after the
+/// brackets, if a run begins with `!` and brackets. Returns `None` for any other run.
 fn marked<'t, 's>(tokens: Tokens<'t, 's>) -> Option<(usize, Tokens<'t, 's>)>
     ensures { MatchOption result (after_mark (tokens_of tokens.entry) ≡ None)
         (λ read. (after_mark (tokens_of tokens.entry) ≡ Some (tokens_of read.1))
@@ -153,8 +154,8 @@ fn marked<'t, 's>(tokens: Tokens<'t, 's>) -> Option<(usize, Tokens<'t, 's>)>
     }
 }
 
-/// Returns the byte offset in the source at which the brackets end if a run begins with brackets,
-/// and the tokens after them. Returns `None` for any other run.
+/// Returns the byte offset in the source at which the brackets end, and the tokens after the
+/// brackets, if a run begins with brackets. Returns `None` for any other run.
 fn bracketed<'t, 's>(tokens: Tokens<'t, 's>) -> Option<(usize, Tokens<'t, 's>)>
     ensures { MatchOption result (after_brackets (tokens_of tokens.entry) ≡ None)
         (λ read. (after_brackets (tokens_of tokens.entry) ≡ Some (tokens_of read.1))
@@ -168,8 +169,7 @@ fn bracketed<'t, 's>(tokens: Tokens<'t, 's>) -> Option<(usize, Tokens<'t, 's>)>
     }
 }
 
-/// Returns whether a documentation comment documents the item around it: whether its third byte is
-/// `!`.
+/// Returns whether a documentation comment is an inner one: whether its third byte is `!`.
 fn is_inner(comment: &str) -> bool
     ensures { result ≡ is_inner comment.now }
 {

@@ -1,30 +1,30 @@
-//! Finds the lexemes of a source that stay. Used by `without_derive`.
+//! Finds the lexemes of the remaining tokens of a source. Used by `without_derive`.
 
 use logos_token::error::Memory;
 use logos_token::token::{Span, TokenTree, Tokens};
 use std::alloc::Global;
 
-/// The tokens after an open group, with the byte offset at which the group around it ends.
+/// The tokens after an open group, with the byte offset at which the enclosing group ends.
 #[derive(Clone, Copy)]
 struct Enclosing<'t, 's> {
     rest: Tokens<'t, 's>,
     to: usize,
 }
 
-/// A cursor over the tokens of a source that stay.
+/// A cursor over the remaining tokens of a source.
 #[derive(Drop)]
 pub(crate) struct Staying<'t, 's> {
     /// The rest of the innermost open group.
     rest: Tokens<'t, 's>,
     /// The byte offset at which the innermost open group ends.
     to: usize,
-    /// For each open group, the outermost first, the tokens after the group and the end of the
-    /// group around it.
+    /// For each open group, from the outermost to the innermost, the tokens after the group and the
+    /// end of the enclosing group.
     outer: Vec<Enclosing<'t, 's>>,
 }
 
 impl<'t, 's> Staying<'t, 's> {
-    /// Returns a cursor before all of `tokens`.
+    /// Returns a cursor at the beginning of `tokens`.
     pub(crate) fn new(alloc: Global, tokens: Tokens<'t, 's>) -> Staying<'t, 's> {
         Staying {
             rest: tokens,
@@ -33,8 +33,8 @@ impl<'t, 's> Staying<'t, 's> {
         }
     }
 
-    /// Returns whether the lexeme at `span` is the next one that stays. If so, moves the cursor
-    /// past it.
+    /// Returns whether the lexeme at `span` is the next remaining lexeme. If so, moves the cursor
+    /// past the lexeme.
     pub(crate) fn pass(&mut self, span: Span) -> Result<bool, Memory> {
         let Some(tree) = self.rest.first() else {
             return Ok(self.leave(span.to));

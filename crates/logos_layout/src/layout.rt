@@ -1,4 +1,4 @@
-//! Lays a text out in lines. Used by `logos_expand`.
+//! Lays out a text in lines. Used by `logos_expand`.
 
 ghost use Rattle.std.specs.Prelude.{IfOk, string_bytes};
 ghost use Rattle.logos_layout.specs.Imports.{IsLaidOut};
@@ -9,7 +9,7 @@ use crate::line_breaks::lines_of;
 use logos_token::error::Memory;
 use std::alloc::Global;
 
-/// The position and the content of a comment that names a line of another text.
+/// A comment to insert into a text. The comment names a line of another text.
 #[derive(Clone, Copy)]
 pub struct Note {
     /// The byte offset in the text before which the comment is inserted.
@@ -27,16 +27,18 @@ pub struct Setting<'n> {
     pub notes: &'n [Note],
 }
 
-/// Returns a Rust text laid out in lines. Its tokens and comments do not change, except that the
-/// comments of `setting` are inserted. Each line begins with the margin of `setting`, and with four
-/// blanks for each level of braces and for a line that continues another. It has at most 100 bytes
-/// if it can be broken at a blank. Lines end after `;`, after the braces of blocks, after commas
-/// between braces, after attributes and comments, and where the text has a line end. A lexeme such
-/// as `else` or `.` stays on the line of the braces before it. Short braces stay on one line.
+/// Returns a Rust text laid out in lines. The tokens and the comments of the text do not change,
+/// except that the comments of `setting` are inserted.
 ///
-/// The last token must be a group in braces, with which the result ends. A text that ends
-/// otherwise, that cannot be read into tokens, or that is longer than 16,777,216 bytes in lines, is
-/// returned unchanged, with LF after it.
+/// Each line begins with the margin of `setting`, with four blanks for each level of braces, and
+/// with four more blanks if the line continues another one. A line has at most 100 bytes if it can
+/// be broken at a blank. Lines end after `;`, after the braces of blocks, after commas between
+/// braces, after attributes and comments, and where the text has a line end. A lexeme such as
+/// `else` or `.` stays on the line of the braces before it. Short braces stay on one line.
+///
+/// The text must end with a group in braces. A text that ends otherwise, that cannot be read into
+/// tokens, or that is longer than 16,777,216 bytes in lines, is returned unchanged, with LF after
+/// it.
 ///
 /// # Errors
 ///

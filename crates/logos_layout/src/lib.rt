@@ -1,5 +1,5 @@
-//! Writes Rust text for people: laid out in lines, or with the layout of its source, and with
-//! unchanged tokens. Used by `logos_expand`.
+//! Formats Rust text for human readers: lays out a text in lines, or repeats the layout of its
+//! source. The tokens do not change. Used by `logos_expand`.
 
 #![tactic(auto)]
 

@@ -1,4 +1,4 @@
-//! Puts the lexemes of a text into lines. Used by `layout`.
+//! Arranges the lexemes of a text in lines. Used by `layout`.
 
 use crate::classes::{LexemeClass, Punctuation, Role, class_of_name, role_of};
 use crate::layout::{Note, Setting};
@@ -15,12 +15,13 @@ use std::alloc::Global;
 struct Layout {
     lines: WordLines,
     state: LayoutState,
-    /// The contents of the delimiters around the innermost open one, the outermost first.
+    /// The contents of the delimiters around the innermost open delimiter, from the outermost to
+    /// the innermost.
     outer: Vec<Open>,
 }
 
-/// Returns `text` in lines, up to the first byte that cannot be read into a lexeme, with the
-/// comments of `setting`.
+/// Returns `text` in lines, with the comments of `setting` inserted. The result ends before the
+/// first byte of `text` that cannot be read into a lexeme.
 pub(crate) fn lines_of(alloc: Global, text: &str, setting: Setting<'_>) -> Result<String, Memory> {
     let mut layout = Layout {
         lines: WordLines::new(alloc, setting.margin)?,
@@ -39,8 +40,8 @@ pub(crate) fn lines_of(alloc: Global, text: &str, setting: Setting<'_>) -> Resul
 }
 
 impl Layout {
-    /// Adds to the layout the lexeme or gap `piece` of the kind `kind`. The bytes `ahead` follow it
-    /// in the text.
+    /// Adds `piece`, a lexeme or gap of the kind `kind`, to the layout. The bytes `ahead` follow
+    /// `piece` in the text.
     fn add_piece(&mut self, kind: LexemeKind, piece: &str, ahead: &[u8]) -> Result<(), Memory> {
         let last = self.state.last;
         match kind {
@@ -57,8 +58,8 @@ impl Layout {
         }
     }
 
-    /// Adds to the layout the first of `notes` as a comment, if its offset is at most the byte
-    /// offset `from`. Returns the notes that were not added.
+    /// Adds the first of `notes` to the layout as a comment if its offset is at most `from`.
+    /// Returns the notes that were not added.
     fn add_note<'n>(
         &mut self,
         alloc: Global,
@@ -87,14 +88,14 @@ impl Layout {
         })
     }
 
-    /// Adds to the layout a lexeme of the class `next`, which is not a delimiter.
+    /// Adds a lexeme of the class `next` to the layout. The lexeme is not a delimiter.
     fn add(&mut self, next: LexemeClass, lexeme: &str) -> Result<(), Memory> {
         self.put(next, lexeme)?;
         self.state = self.state.after(next);
         Ok(())
     }
 
-    /// Adds an opening delimiter to the layout. The bytes `ahead` follow it in the text.
+    /// Adds an opening delimiter to the layout. The bytes `ahead` follow the delimiter in the text.
     fn open(&mut self, delimiter: Delimiter, lexeme: &str, ahead: &[u8]) -> Result<(), Memory> {
         let last = self.state.last;
         self.put(LexemeClass::Opening(delimiter), lexeme)?;
@@ -115,8 +116,8 @@ impl Layout {
         Ok(())
     }
 
-    /// Adds a lexeme of the class `next` to the current word, or begins a word with it. The state
-    /// of the layout does not change.
+    /// Adds a lexeme of the class `next` to the current word, or begins a new word with the lexeme.
+    /// The state of the layout does not change.
     fn put(&mut self, next: LexemeClass, lexeme: &str) -> Result<(), Memory> {
         if let Some(lead) = self.state.lead(next) {
             self.lines.begin(lead)?;
@@ -124,7 +125,8 @@ impl Layout {
         self.lines.add(lexeme)
     }
 
-    /// Adds a gap to the layout: a comment as a lexeme, and white space to the state.
+    /// Adds a gap to the layout. A comment is added as a lexeme; white space changes only the
+    /// state.
     fn add_gap(&mut self, piece: &str) -> Result<(), Memory> {
         if first_byte(piece) == b'/' {
             return self.add(LexemeClass::Comment, piece);
@@ -142,7 +144,7 @@ fn first_byte(text: &str) -> u8 {
     }
 }
 
-/// Returns the content of a gap that consists of the white space `space`, which is not empty.
+/// Returns the kind of the gap that consists of the white space `space`. `space` is not empty.
 fn gap_of(space: &[u8]) -> Gap {
     let mut gap = Gap::Blank;
     for byte in space {
@@ -151,7 +153,8 @@ fn gap_of(space: &[u8]) -> Gap {
     gap
 }
 
-/// Returns the content of the gap `gap` with `byte`, a byte of white space, appended to it.
+/// Returns the kind of a gap of the kind `gap` after `byte`, a byte of white space, is appended to
+/// it.
 fn gap_with(gap: Gap, byte: u8) -> Gap {
     match (gap, byte) {
         (Gap::Line, b'\n') => Gap::EmptyLine,

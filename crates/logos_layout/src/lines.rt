@@ -9,15 +9,17 @@ const MAX_LINE: usize = 100;
 /// The separator before a word.
 #[derive(Clone, Copy)]
 pub(crate) enum WordLead {
-    /// A blank, or, if the line would be too long, a line end and `depth` levels.
+    /// A blank, or a line end and `depth` levels of indentation if the line would be too long.
     Blank { depth: usize },
-    /// A line end and `depth` levels, with an empty line before them if `is_apart` is set.
+    /// A line end and `depth` levels of indentation. An empty line precedes them if `is_apart` is
+    /// `true`.
     Line { depth: usize, is_apart: bool },
     /// Nothing: the beginning of the text.
     Nothing,
 }
 
-/// A text in lines that are filled word by word. A word is lexemes without a blank between them.
+/// A text in lines that are filled word by word. A word consists of lexemes without a blank between
+/// them.
 #[derive(Drop)]
 pub(crate) struct WordLines {
     /// The lines so far, without the current word.
@@ -33,8 +35,7 @@ pub(crate) struct WordLines {
 }
 
 impl WordLines {
-    /// Returns an empty text, in which each line, including the first one, will begin with
-    /// `margin`.
+    /// Returns an empty text whose lines, including the first one, will begin with `margin`.
     pub(crate) fn new(alloc: Global, margin: &str) -> Result<WordLines, Memory> {
         Ok(WordLines {
             text: String::new(alloc),
@@ -53,8 +54,8 @@ impl WordLines {
         Ok(())
     }
 
-    /// Returns the number of bytes that fit into the last line after the current word, without a
-    /// separator before the word, or 0 if none do.
+    /// Returns the number of bytes that fit into the last line after the current word, not counting
+    /// a separator before the word. Returns 0 if no byte fits.
     pub(crate) fn room(&self) -> usize {
         let used = self.column.saturating_add(self.word.len());
         MAX_LINE.saturating_sub(used)
@@ -106,7 +107,7 @@ impl WordLines {
         Ok(())
     }
 
-    /// Appends a line end if `is_apart` is set, so that an empty line follows the last line.
+    /// Appends a line end if `is_apart` is `true`, so that an empty line follows the last line.
     fn put_empty_line(&mut self, is_apart: bool) -> Result<(), Memory> {
         if is_apart {
             self.text.push('\n')?;
@@ -114,7 +115,7 @@ impl WordLines {
         Ok(())
     }
 
-    /// Ends the last line, and begins a line with the margin and `depth` levels of four blanks.
+    /// Ends the last line, and begins a new line with the margin and `depth` levels of four blanks.
     fn put_line(&mut self, depth: usize) -> Result<(), Memory> {
         self.text.push('\n')?;
         self.put_margin()?;

@@ -1,14 +1,14 @@
-//! Puts inner documentation and attributes into plain comments. Used by `inner_attributes`.
+//! Turns inner documentation and inner attributes into plain comments. Used by `inner_attributes`.
 //!
-//! The output is untrusted: its caller checks that it spells no tokens.
+//! The result is untrusted: the caller checks that it spells no tokens.
 
 use crate::pieces::first_piece;
 use logos_lexeme::lexeme::LexemeKind;
 use logos_token::error::Memory;
 use std::alloc::Global;
 
-/// Returns plain comments in place of `text`, a text of inner documentation comments and
-/// attributes, up to the first byte that cannot be read into a lexeme.
+/// Returns the plain comments that replace `text`, a text of inner documentation comments and inner
+/// attributes. The result ends before the first byte of `text` that cannot be read into a lexeme.
 pub(crate) fn plain_text(alloc: Global, text: &str) -> Result<String, Memory> {
     let mut plain = String::new(alloc);
     let mut depth = 0;
@@ -21,8 +21,8 @@ pub(crate) fn plain_text(alloc: Global, text: &str) -> Result<String, Memory> {
     Ok(plain)
 }
 
-/// Returns the number of open delimiters after a lexeme or gap of the kind `kind`, before which
-/// `depth` are open.
+/// Returns the number of open delimiters after a lexeme or gap of the kind `kind`. `depth` is the
+/// number of open delimiters before the lexeme or gap.
 fn depth_after(kind: LexemeKind, depth: usize) -> usize {
     match kind {
         LexemeKind::Opening(_) => depth.saturating_add(1),
@@ -31,9 +31,9 @@ fn depth_after(kind: LexemeKind, depth: usize) -> usize {
     }
 }
 
-/// Appends to `plain` the lexeme or gap `piece`, which is inside of `depth` delimiters. Before the
-/// `#` of an attribute begins a comment, and after its brackets the comment ends. A documentation
-/// comment becomes a plain one.
+/// Appends `piece`, a lexeme or gap inside `depth` delimiters, to `plain`. A comment begins before
+/// the `#` of an attribute and ends after the brackets of the attribute. A documentation comment
+/// becomes a plain one.
 fn push_piece(
     plain: &mut String,
     kind: LexemeKind,
@@ -67,8 +67,8 @@ fn push_comment(plain: &mut String, comment: &str) -> Result<(), Memory> {
     push(plain, comment, "")
 }
 
-/// Returns `mark`, with which a plain comment with the text `rest` begins. A blank follows it if
-/// `rest` begins with a character that would make the comment documentation.
+/// Returns `mark`, the beginning of a plain comment with the text `rest`. A blank is added to
+/// `mark` if the comment would otherwise be a documentation comment.
 fn opening(mark: &'static str, rest: &str) -> &'static str {
     match (mark, rest.as_bytes()) {
         ("//", [b'/' | b'!', ..]) => "// ",

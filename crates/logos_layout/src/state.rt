@@ -19,7 +19,7 @@ pub(crate) enum Open {
     Group,
 }
 
-/// The kind of the gap before the next lexeme, by its line ends.
+/// The kind of the gap before the next lexeme, according to the line ends in the gap.
 #[derive(Clone, Copy, PartialEq, Eq)]
 pub(crate) enum Gap {
     /// No byte: there is no gap.
@@ -75,8 +75,8 @@ impl LayoutState {
         }
     }
 
-    /// Returns the separator before the next lexeme, which has the class `next`, or `None` if the
-    /// lexeme continues the current word.
+    /// Returns the separator before the next lexeme, or `None` if the lexeme continues the current
+    /// word. `next` is the class of the lexeme.
     pub(crate) fn lead(self, next: LexemeClass) -> Option<WordLead> {
         if matches!(self.last, LexemeClass::Start) {
             return None;
@@ -94,7 +94,7 @@ impl LayoutState {
         None
     }
 
-    /// Returns whether the next lexeme, which has the class `next`, begins a line.
+    /// Returns whether the next lexeme begins a line. `next` is the class of the lexeme.
     fn is_line_before(self, next: LexemeClass) -> bool {
         if closes_block(self.inner, next) {
             return true;
@@ -107,7 +107,7 @@ impl LayoutState {
         }
     }
 
-    /// Returns the number of levels of four blanks before the next lexeme, which has the class
+    /// Returns the number of levels of four blanks before the next lexeme. The lexeme has the class
     /// `next` and begins a line.
     fn depth_before(self, next: LexemeClass) -> usize {
         if closes_block(self.inner, next) {
@@ -139,8 +139,8 @@ impl LayoutState {
         }
     }
 
-    /// Returns the state after a closing delimiter. `outer` is the content of the delimiter around
-    /// it.
+    /// Returns the state after a closing delimiter. `outer` is the content of the enclosing
+    /// delimiter.
     pub(crate) fn after_closing(self, delimiter: Delimiter, outer: Open) -> LayoutState {
         let is_block = matches!(self.inner, Open::Block);
         LayoutState {
@@ -153,7 +153,7 @@ impl LayoutState {
         }
     }
 
-    /// Returns the state after a lexeme of the class `next`, which is not a delimiter.
+    /// Returns the state after a lexeme of the class `next`. The lexeme is not a delimiter.
     pub(crate) fn after(self, next: LexemeClass) -> LayoutState {
         LayoutState {
             types: types_after(next, self.types),
@@ -164,7 +164,7 @@ impl LayoutState {
         }
     }
 
-    /// Returns the unit that ends with a lexeme of the class `next`, which is not a delimiter.
+    /// Returns the unit that ends with a lexeme of the class `next`. The lexeme is not a delimiter.
     fn end_at(self, next: LexemeClass) -> LastEnd {
         let ends = match next {
             LexemeClass::Comment => true,
@@ -180,13 +180,13 @@ impl LayoutState {
     }
 }
 
-/// Returns whether a lexeme of the class `next` closes the innermost open delimiter, whose content
-/// `inner` is separate lines.
+/// Returns whether a lexeme of the class `next` closes a block: whether it is a closing delimiter,
+/// and the content `inner` of the innermost open delimiter is separate lines.
 fn closes_block(inner: Open, next: LexemeClass) -> bool {
     matches!(inner, Open::Block) & matches!(next, LexemeClass::Closing(_))
 }
 
-/// Returns whether a lexeme of the class `next` continues the line of the closing braces before it.
+/// Returns whether a lexeme of the class `next` continues the line of the closing brace before it.
 fn continues(next: LexemeClass) -> bool {
     match next {
         LexemeClass::Sign(role) => matches!(
@@ -214,8 +214,8 @@ fn end_of(inner: Open) -> LastEnd {
     }
 }
 
-/// Returns the number of open lists of types after an opening or closing delimiter, before which
-/// `types` are open. Braces end all of them.
+/// Returns the number of open lists of types after an opening or closing delimiter. `types` is the
+/// number before the delimiter. A brace ends all open lists.
 fn types_inside(delimiter: Delimiter, types: usize) -> usize {
     match delimiter {
         Delimiter::Brace => 0,
@@ -223,8 +223,8 @@ fn types_inside(delimiter: Delimiter, types: usize) -> usize {
     }
 }
 
-/// Returns the number of open lists of types after a lexeme of the class `next`, before which
-/// `types` are open. A `;` ends all of them.
+/// Returns the number of open lists of types after a lexeme of the class `next`. `types` is the
+/// number before the lexeme. A `;` ends all open lists.
 fn types_after(next: LexemeClass, types: usize) -> usize {
     match next {
         LexemeClass::Sign(Role::Semicolon) => 0,
@@ -234,8 +234,9 @@ fn types_after(next: LexemeClass, types: usize) -> usize {
     }
 }
 
-/// Returns the kind of the content that an opening delimiter opens after a lexeme of the class
-/// `last`. The bytes `ahead` follow the delimiter, and `room` bytes fit into the line after it.
+/// Returns the kind of the content that begins after an opening delimiter. `last` is the class of
+/// the lexeme before the delimiter. The bytes `ahead` follow the delimiter, and `room` bytes fit
+/// into the line after the delimiter.
 pub(crate) fn opened(last: LexemeClass, delimiter: Delimiter, ahead: &[u8], room: usize) -> Open {
     match delimiter {
         Delimiter::Brace if is_short(ahead, room) => Open::Short,
@@ -245,8 +246,8 @@ pub(crate) fn opened(last: LexemeClass, delimiter: Delimiter, ahead: &[u8], room
     }
 }
 
-/// Returns whether the first `}` of `ahead` is among its first `room` bytes, and no line end, `;`
-/// or `{` is before it.
+/// Returns whether a `}` is among the first `room` bytes of `ahead`, with no line end, `;` or `{`
+/// before it.
 fn is_short(ahead: &[u8], room: usize) -> bool {
     for at in 0..room {
         match ahead.get(at) {

@@ -7,11 +7,11 @@ use logos_token::error::Memory;
 use logos_token::token::Tokens;
 use std::alloc::Global;
 
-/// The beginning of a source, from which lexemes were removed with the gaps around them.
+/// The beginning of a source without the removed lexemes and without the gaps around them.
 #[derive(Drop)]
 struct Thinned {
     text: String,
-    /// The gap after the text, which has not been appended to it.
+    /// The gap after `text`, not yet appended to `text`.
     gap: String,
     /// Whether the gap has a line end.
     has_line: bool,
@@ -21,10 +21,11 @@ struct Thinned {
     depth: usize,
 }
 
-/// Returns the text of `source` without the lexemes that are not among the tokens `left`, up to the
-/// first byte that cannot be read into a lexeme. A line that contains only removed lexemes is
-/// removed with them. Comments stay, except inside removed delimiters and after the last lexeme
-/// that stays.
+/// Returns the text of `source` after removing all lexemes that do not belong to the tokens `left`.
+/// The result ends before the first byte of `source` that cannot be read into a lexeme.
+///
+/// A line that contains only removed lexemes is removed with them. Comments remain, except inside
+/// removed delimiters and after the last remaining lexeme.
 pub(crate) fn text_without(
     alloc: Global,
     source: &str,
@@ -43,8 +44,8 @@ pub(crate) fn text_without(
     Ok(thinned.text)
 }
 
-/// Returns whether a lexeme of the kind `kind` at `span` is the next one that stays, and moves
-/// `staying` past it. Returns `false` for a gap.
+/// Returns whether a lexeme of the kind `kind` at `span` is the next remaining lexeme. If so, moves
+/// `staying` past the lexeme. Returns `false` for a gap.
 fn stays(staying: &mut Staying<'_, '_>, kind: LexemeKind, span: Span) -> Result<bool, Memory> {
     match kind {
         LexemeKind::Gap => Ok(false),
@@ -64,7 +65,7 @@ impl Thinned {
         }
     }
 
-    /// Adds a gap or a lexeme to the text. A lexeme is removed unless `stays` is set.
+    /// Adds a gap or a lexeme to the text. A lexeme is left out unless `stays` is `true`.
     fn add_piece(&mut self, kind: LexemeKind, piece: &str, stays: bool) -> Result<(), Memory> {
         match kind {
             LexemeKind::Gap => self.add_gap(piece),
@@ -76,8 +77,8 @@ impl Thinned {
         }
     }
 
-    /// Appends to the text the gap and the lexeme `lexeme`. Leaves out the gap if a lexeme directly
-    /// before `lexeme` was removed and the gap has no line end.
+    /// Appends the gap and `lexeme` to the text. Leaves out the gap if it has no line end and the
+    /// lexeme directly before `lexeme` was removed.
     fn add(&mut self, lexeme: &str) -> Result<(), Memory> {
         if !self.is_cut | self.has_line {
             self.text.push_str(self.gap.as_str())?;
@@ -90,8 +91,8 @@ impl Thinned {
         Ok(())
     }
 
-    /// Passes over a removed lexeme of the kind `kind`, and counts the removed delimiters that are
-    /// open.
+    /// Skips a removed lexeme of the kind `kind`, and updates the number of removed delimiters that
+    /// are open.
     fn leave_out(&mut self, kind: LexemeKind) {
         self.is_cut = true;
         match kind {
@@ -113,7 +114,8 @@ impl Thinned {
     }
 
     /// Replaces the gap before a removed lexeme by `space`, the white space after the lexeme, if
-    /// only `space` has a line end. Leaves out `space` otherwise, and at the beginning of the text.
+    /// `space` has a line end and the gap has none. Leaves out `space` otherwise, and at the
+    /// beginning of the text.
     fn join_gap(&mut self, space: &str) -> Result<(), Memory> {
         self.is_cut = false;
         if self.has_line | self.text.is_empty() | !has_line(space.as_bytes()) {

@@ -1,4 +1,4 @@
-//! Writes the tokens of a source that remain. Used by `logos_expand`.
+//! Writes the remaining tokens of a source. Used by `logos_expand`.
 
 ghost use Rattle.std.specs.Prelude.{IfOk, string_bytes};
 ghost use Rattle.logos_layout.specs.Imports.{IsWrittenAs, tokens_of};
@@ -9,11 +9,11 @@ use logos_token::error::Memory;
 use logos_token::token::{Tokens, print};
 use std::alloc::Global;
 
-/// Returns the text of `left`, the tokens of `source` that remain, with the comments and the layout
-/// of the source. A line all of whose tokens were removed is removed, unless it has a comment.
+/// Returns the text of `left`, the remaining tokens of `source`, with the comments and the layout
+/// of the source. A line that has lost all its tokens is removed unless it has a comment.
 ///
-/// The tokens are those of the source with their spans in it, in order, but groups may have lost
-/// tokens. For any other tokens, the text is that of `print`.
+/// `left` consists of tokens of the source in order, with their spans in the source. A group may
+/// have lost tokens. For any other tokens, returns the text that `print` returns.
 ///
 /// # Errors
 ///

@@ -1,4 +1,5 @@
-//! Reports the faults of leaves, one for each function. `leaf` calls these functions.
+//! Reports the faults of leaves. Each function reports one kind of fault. `leaf` calls these
+//! functions.
 
 ghost use Rattle.std.specs.Prelude.{OnOk};
 ghost use Rattle.logos_leaf.specs.Imports.{AddsFault, greedy_dot, priority_overflow};
@@ -6,11 +7,11 @@ ghost use Rattle.logos_leaf.specs.Imports.{AddsFault, greedy_dot, priority_overf
 use logos_token::error::{Errors, FaultCode, Memory};
 use logos_token::token::Span;
 
-/// The message for a greedy dot.
+/// The message for a greedy dot in a pattern.
 const GREEDY_DOT: &str =
     "This pattern contains an unbounded greedy dot repetition, i.e. `.*` or `.+` (or a character class that is equivalent to a dot, i.e., `[^\\n]*`). This will cause the entirety of the input to be read for every token. Consider making your repetition non-greedy or changing it to a more specific character class. If this is the intended behavior, add #[regex(..., allow_greedy = true)] or#[logos(skip(..., allow_greedy = true))]";
 
-/// Reports a greedy dot in the pattern whose literal is at `span`.
+/// Reports that the pattern whose literal is at `span` contains a greedy dot.
 pub(crate) fn report_greedy_dot(span: Span, errors: &mut Errors) -> Result<(), Memory>
     ensures { OnOk result (AddsFault (greedy_dot span) errors.old errors.new) }
 {

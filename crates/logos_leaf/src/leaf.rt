@@ -1,4 +1,4 @@
-//! Makes leaves of definitions. The readers of skips and of the attributes of variants call
+//! Makes leaves from definitions. The readers of skips and of the attributes of variants call
 //! `token_leaf` or `regex_leaf` for each definition.
 
 ghost use Rattle.std.specs.Prelude.{◌≡◌, ◌++◌, IfOk, IfSome, OnOk, OnErr, true, false, option_map, chars, string_bytes};
@@ -13,7 +13,7 @@ use logos_pattern::pattern::{Literal, Pattern, token_priority};
 use logos_token::error::{Errors, Memory};
 use std::alloc::Global;
 
-/// Returns the options of the leaf of `definition`.
+/// Returns the options of the leaf that is made from `definition`.
 fn options_of(definition: &Definition<'_>) -> LeafOptions
     ensures { result ≡ options_of (definition_view definition.now) }
 {
@@ -23,7 +23,8 @@ fn options_of(definition: &Definition<'_>) -> LeafOptions
     }
 }
 
-/// Returns the leaf of `definition` with `kind`, `pattern` and `priority`.
+/// Returns the leaf for `definition` with the kind `kind`, the pattern `pattern` and the priority
+/// `priority`.
 fn leaf_with<'s>(
     definition: Definition<'s>,
     kind: VariantKind<'s>,
@@ -44,8 +45,8 @@ fn leaf_with<'s>(
         .options(options)
 }
 
-/// Returns the priority of a `token`: that of its definition, or else twice the number of bytes of
-/// its literal's value.
+/// Returns the priority of a `token`: the priority in its definition if there is one, and otherwise
+/// twice the number of bytes of its literal's value.
 fn priority_of(definition: &Definition<'_>) -> usize
     ensures { result ≡ token_priority (definition_view definition.now) }
 {
@@ -53,7 +54,7 @@ fn priority_of(definition: &Definition<'_>) -> usize
     definition.priority.unwrap_or(default)
 }
 
-/// Returns whether a literal is a string, not a byte string.
+/// Returns whether `literal` is a string rather than a byte string.
 fn is_string(literal: &Literal<'_>) -> bool
     ensures { result ≡ is_string (literal_view literal.now).held }
 {
@@ -75,7 +76,7 @@ fn escaped_of(alloc: Global, literal: &Literal<'_>) -> Result<String, Memory>
 }
 
 /// Returns the pattern of a `token` whose letters match in either case. If the escaped text of
-/// `literal` is not read as a pattern, reports the reason and returns `None`.
+/// `literal` cannot be read as a pattern, reports the reason and returns `None`.
 fn folded_pattern<'s>(
     literal: &Literal<'s>,
     errors: &mut Errors,
@@ -100,8 +101,8 @@ fn folded_pattern<'s>(
     read_pattern(text.as_str(), written, mode, errors)
 }
 
-/// Returns the leaf of a `token` whose letters match in either case. If its text is not read as a
-/// pattern, reports the reason and returns `None`.
+/// Returns the leaf of a `token` whose letters match in either case. If the token's text cannot be
+/// read as a pattern, reports the reason and returns `None`.
 fn folded_leaf<'s>(
     definition: Definition<'s>,
     kind: VariantKind<'s>,
@@ -130,7 +131,7 @@ fn folded_leaf<'s>(
     }
 }
 
-/// Returns the leaf of a `token` without flags, which matches exactly the bytes of its literal's
+/// Returns the leaf of a `token` without flags. The leaf matches exactly the bytes of the literal's
 /// value.
 fn plain_leaf<'s>(
     alloc: Global,
@@ -154,8 +155,8 @@ fn plain_leaf<'s>(
     }
 }
 
-/// Returns the leaf of a `token`. If `definition` ignores case and its text is not read as a
-/// pattern, reports the reason and returns `None`.
+/// Returns the leaf of a `token`. If `definition` ignores case and the token's text cannot be read
+/// as a pattern, reports the reason and returns `None`.
 ///
 /// # Errors
 ///
@@ -176,7 +177,7 @@ pub fn token_leaf<'s>(
     Ok(Some(plain_leaf(errors.alloc(), definition, kind)?))
 }
 
-/// Reports a greedy dot of `pattern`, unless `definition` allows it.
+/// Reports a greedy dot in `pattern`, unless `definition` allows greedy dots.
 fn check_greedy(
     definition: &Definition<'_>,
     pattern: &Pattern<'_>,
@@ -192,8 +193,9 @@ fn check_greedy(
     Ok(())
 }
 
-/// Returns the priority of a `regex` or `skip`: that of its definition, or else the default of
-/// `pattern`. Returns `None` if that default does not fit `usize`.
+/// Returns the priority of a `regex` or `skip`: the priority in its definition if there is one, and
+/// otherwise the default priority of `pattern`. Returns `None` if the default priority does not fit
+/// `usize`.
 fn regex_priority(definition: &Definition<'_>, pattern: &Pattern<'_>) -> Option<usize>
     ensures { result
         ≡ regex_priority (definition_view definition.now) (pattern_tree pattern.now) }
@@ -201,9 +203,9 @@ fn regex_priority(definition: &Definition<'_>, pattern: &Pattern<'_>) -> Option<
     definition.priority.or(pattern.priority())
 }
 
-/// Returns `pattern` with its priority: that of its definition, or else its default. If the default
-/// does not fit `usize`, reports that and returns `None`. A greedy dot is reported first, unless
-/// the definition allows it.
+/// Returns `pattern` with the priority that `regex_priority` returns. If the default priority does
+/// not fit `usize`, reports a fault and returns `None`. Reports a greedy dot first, unless
+/// `definition` allows greedy dots.
 fn fitted_pattern<'s>(
     definition: &Definition<'s>,
     pattern: Pattern<'s>,
@@ -231,9 +233,9 @@ fn fitted_pattern<'s>(
     Ok(Some((pattern, priority)))
 }
 
-/// Reads `text`, in which all subpatterns are substituted, and returns its pattern and priority. If
-/// the text is not read as a pattern or the default priority does not fit `usize`, reports that and
-/// returns `None`.
+/// Reads `text` as a pattern, and returns the pattern with its priority. All subpatterns in `text`
+/// must already be substituted. If the text cannot be read as a pattern or the default priority
+/// does not fit `usize`, reports the fault and returns `None`.
 fn whole_pattern<'s>(
     definition: &Definition<'s>,
     text: &str,
@@ -266,7 +268,7 @@ fn whole_pattern<'s>(
 }
 
 /// Returns the pattern text that the value of `literal` spells, with all subpatterns substituted.
-/// If a subpattern is missing, reports that and returns `None`.
+/// If a subpattern is missing, reports the subpattern and returns `None`.
 fn whole_text(
     literal: &Literal<'_>,
     subpatterns: &Subpatterns<'_>,
@@ -283,8 +285,8 @@ fn whole_text(
 }
 
 /// Returns the pattern of a `regex` or `skip`, and its priority. If a subpattern is missing, the
-/// text is not read as a pattern, or the default priority does not fit `usize`, reports that and
-/// returns `None`.
+/// text cannot be read as a pattern, or the default priority does not fit `usize`, reports the
+/// fault and returns `None`.
 fn regex_pattern<'s>(
     definition: &Definition<'s>,
     subpatterns: &Subpatterns<'s>,
@@ -304,8 +306,8 @@ fn regex_pattern<'s>(
     }
 }
 
-/// Returns the leaf of a `regex` or `skip`, or `None` for a fault that prevents it, and reports all
-/// faults. After an error some faults may have been added.
+/// Returns the leaf of a `regex` or `skip`, or `None` if a fault prevents the leaf. Reports all
+/// faults. After an error, `errors` may already contain some of these faults.
 fn read_leaf<'s>(
     definition: Definition<'s>,
     kind: VariantKind<'s>,
@@ -331,9 +333,11 @@ fn read_leaf<'s>(
     }
 }
 
-/// Returns the leaf of a `regex` or `skip`. If a subpattern is missing, the text is not read as a
-/// pattern, or the default priority does not fit `usize`, reports that and returns `None`. A greedy
-/// dot is also reported, unless the definition allows it, but the leaf is returned.
+/// Returns the leaf of a `regex` or `skip`.
+///
+/// If a subpattern is missing, the text cannot be read as a pattern, or the default priority does
+/// not fit `usize`, reports the fault and returns `None`. Also reports a greedy dot, unless the
+/// definition allows greedy dots. A greedy dot alone does not prevent the leaf.
 ///
 /// # Errors
 ///

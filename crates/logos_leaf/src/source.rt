@@ -29,7 +29,7 @@ fn read_parameters<'s>(
     Ok(())
 }
 
-/// Reads the attributes of an enum into `parser`, in order.
+/// Reads the options in the attributes of an enum into `parser`, in order.
 fn read_attributes<'s>(attributes: Tokens<'_, 's>, parser: &mut Parser<'s>) -> Result<(), Memory>
     ensures { OnOk result (ReadsAttributes (parser_view parser.old) (parser_view parser.new)
         parser.old.errors parser.new.errors (tokens_of attributes.entry)) }
@@ -42,8 +42,7 @@ fn read_attributes<'s>(attributes: Tokens<'_, 's>, parser: &mut Parser<'s>) -> R
     Ok(())
 }
 
-/// Appends to `leaves` the leaves of `skips`, the definitions of `skip`, in source order, and
-/// reports their faults.
+/// Appends the leaves of `skips` to `leaves`, in source order, and reports the faults of `skips`.
 fn add_skips<'s>(
     skips: Vec<Definition<'s>>,
     subpatterns: &Subpatterns<'s>,
@@ -61,8 +60,9 @@ fn add_skips<'s>(
     Ok(())
 }
 
-/// Removes the skips from `parser`, and returns their leaves and then the leaves of `variants`.
-/// `held` contains the name of each type parameter whose type contains that parameter.
+/// Removes the skips from `parser`. Returns the leaves of the skips, followed by the leaves of
+/// `variants`. `held` contains the name of each type parameter whose type contains the parameter
+/// itself.
 fn leaves_with<'s>(
     variants: &[Variant<'_, 's>],
     held: &HashSet<&'s str>,
@@ -84,8 +84,8 @@ fn leaves_with<'s>(
     Ok(leaves)
 }
 
-/// Reports each type parameter whose type contains that parameter, reads the subpatterns, and
-/// returns the leaves of the skips and of `variants`.
+/// Reports each type parameter whose type contains the parameter itself, and reads the subpatterns.
+/// Returns the leaves of the skips, followed by the leaves of `variants`.
 fn make_leaves<'s>(
     variants: &[Variant<'_, 's>],
     parser: &mut Parser<'s>,
@@ -107,10 +107,12 @@ fn make_leaves<'s>(
     }
 }
 
-/// Reads an enum into `parser`, a new parser, and returns its leaves: those of its skips first,
-/// then those of its variants, in source order. Reads the generic parameters, the attributes, the
-/// subpatterns, the skips and the variants, in this order, and performs each step regardless of
-/// earlier faults. Afterwards the parser has the options without the skips, and all faults.
+/// Reads an enum into `parser`, which must be new. Returns the leaves of the enum's skips, followed
+/// by the leaves of its variants, in source order.
+///
+/// Reads the generic parameters, the attributes, the subpatterns, the skips and the variants, in
+/// this order. Performs each step regardless of earlier faults. Afterwards the parser contains all
+/// options except the skips, and all faults.
 ///
 /// # Errors
 ///

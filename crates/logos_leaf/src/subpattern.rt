@@ -1,6 +1,6 @@
-//! Subpatterns: patterns with names, which other patterns use as `(?&name)`.
+//! Defines subpatterns: patterns with names, which other patterns use as `(?&name)`.
 //!
-//! `source` makes the subpatterns of a lexer once, after all attributes of the enum are read.
+//! `source` makes the subpatterns of a lexer once, after it has read all attributes of the enum.
 
 ghost use Rattle.std.specs.Prelude.{◌≡◌, ◌++◌, ◌∷◌, [], ◌<◌, IfOk, IfSome, OnOk, string_bytes, ℕ, List, map, option_map, OnErr, chars, vec_len, None};
 ghost use Rattle.logos_leaf.specs.subpattern.Imports.{list_all, previous, ident_slice, literal_view, named_literal_view, AddsFault, is_word, is_name, flags_of, pattern_text, wrapped, subpattern_name, subpattern_twice, utf8_subpattern, utf8_text, Bor, IsReport, text_of, subst_report, stored_report, tested_report, IsAdded, AreAdded, IsTested, put_stored, stored_at, slot_in, FindSlots};
@@ -22,12 +22,12 @@ use std::alloc::Global;
 use std::collections::HashMap;
 use std::mem;
 
-/// A pattern with a name, by which other patterns use it.
+/// A pattern with a name by which other patterns use it.
 #[derive(Drop)]
 pub struct Subpattern<'s> {
     name: Ident<'s>,
-    /// The text of the pattern in a group that sets its flags, with each name of an earlier
-    /// subpattern replaced by the text of that subpattern.
+    /// The text of the pattern, in a group that sets the pattern's flags. Each use of an earlier
+    /// subpattern is replaced by the text of that subpattern.
     pattern: String,
 }
 
@@ -36,12 +36,12 @@ pub struct Subpattern<'s> {
 pub struct Subpatterns<'s> {
     /// The subpatterns, in the order in which their names first occur.
     list: Vec<Subpattern<'s>>,
-    /// For the name of each subpattern, its index in `list`.
+    /// The index in `list` of each subpattern, by name.
     slots: HashMap<&'s str, usize>,
     ghost found: { FindSlots (map stored_of list.items) slots.entries },
 }
 
-/// The flags with which the text of a subpattern is tested. The group around the text sets its own
+/// The mode in which the text of a subpattern is tested. The group around the text sets its own
 /// flags.
 const TEST_MODE: ReadingMode = ReadingMode {
     is_literal: false,
@@ -49,7 +49,7 @@ const TEST_MODE: ReadingMode = ReadingMode {
     ignore_case: false,
 };
 
-/// Returns whether the name of a subpattern can contain `byte`.
+/// Returns whether `byte` can occur in the name of a subpattern.
 fn is_word(byte: u8) -> bool
     ensures { result ≡ is_word byte }
 {
@@ -58,7 +58,7 @@ fn is_word(byte: u8) -> bool
         | (((b'`' < byte) & (byte < b'{')) | (byte == b'_'))
 }
 
-/// Returns whether the name of a subpattern can contain each of `bytes`.
+/// Returns whether all `bytes` can occur in the name of a subpattern.
 fn are_words(bytes: &[u8]) -> bool
     ensures { result ≡ list_all is_word bytes.now }
 {
@@ -70,8 +70,8 @@ fn are_words(bytes: &[u8]) -> bool
     true
 }
 
-/// Returns whether `text` can be the name of a subpattern: one or more digits, ASCII letters and
-/// `_`.
+/// Returns whether `text` can be the name of a subpattern, that is, whether it consists of one or
+/// more ASCII letters, digits and `_`.
 fn is_name(text: &str) -> bool
     ensures { result ≡ is_name text.now }
 {
@@ -82,8 +82,8 @@ fn is_name(text: &str) -> bool
     are_words(bytes)
 }
 
-/// Returns the text that opens the group of a subpattern and sets the group's flags: `(?u:` for a
-/// string, and `(?-u:` for a byte string.
+/// Returns the text that opens the group of a subpattern and sets the flags of the group. The text
+/// is `(?u:` for a string, and `(?-u:` for a byte string.
 pub(crate) fn flags_of(literal: &Literal<'_>) -> &'static str
     ensures { result.now ≡ flags_of (literal_view literal.now).held }
 {
@@ -107,8 +107,8 @@ pub fn pattern_text(alloc: Global, literal: &Literal<'_>) -> Result<String, Memo
     }
 }
 
-/// Returns the pattern text of `literal` in a group that sets its flags. Other patterns contain it
-/// in this form.
+/// Returns the pattern text of `literal`, in a group that sets the pattern's flags. Other patterns
+/// contain a subpattern in this form.
 pub(crate) fn wrapped(alloc: Global, literal: &Literal<'_>) -> Result<String, Memory>
     ensures { IfOk result (λ text. string_bytes text ≡ wrapped (literal_view literal.now).held) }
 {
@@ -119,7 +119,7 @@ pub(crate) fn wrapped(alloc: Global, literal: &Literal<'_>) -> Result<String, Me
     Ok(text)
 }
 
-/// Reports `name`, which no subpattern can have.
+/// Reports that `name` cannot be the name of a subpattern.
 fn report_name(name: Ident<'_>, errors: &mut Errors) -> Result<(), Memory>
     ensures { OnOk result
         (AddsFault (subpattern_name (ident_slice name.entry)) errors.old errors.new) }
@@ -133,7 +133,7 @@ fn report_name(name: Ident<'_>, errors: &mut Errors) -> Result<(), Memory>
     )
 }
 
-/// Reports the second subpattern that is called `name`.
+/// Reports that an earlier subpattern is also called `name`.
 fn report_second(name: Ident<'_>, errors: &mut Errors) -> Result<(), Memory>
     ensures { OnOk result
         (AddsFault (subpattern_twice (ident_slice name.entry)) errors.old errors.new) }
@@ -147,8 +147,8 @@ fn report_second(name: Ident<'_>, errors: &mut Errors) -> Result<(), Memory>
     )
 }
 
-/// Reports the second subpattern that is called `name`, and `former`, the span of the first one's
-/// name.
+/// Reports that an earlier subpattern is also called `name`. Then reports `former`, the span of the
+/// earlier subpattern's name.
 fn report_twice(name: Ident<'_>, former: Span, errors: &mut Errors) -> Result<(), Memory>
     ensures { OnOk result (errors.new ≡ errors.old
         ++ (subpattern_twice (ident_slice name.entry) ∷ previous former ∷ [])) }
@@ -158,7 +158,8 @@ fn report_twice(name: Ident<'_>, former: Span, errors: &mut Errors) -> Result<()
     Ok(())
 }
 
-/// Returns the message for a subpattern, its name and its literal, that can match invalid UTF-8.
+/// Returns the message for a subpattern that can match invalid UTF-8. `named` contains the name and
+/// the literal of the subpattern.
 fn utf8_text(alloc: Global, named: &(Ident<'_>, Literal<'_>)) -> Result<String, Memory>
     ensures { IfOk result (λ text. string_bytes text ≡ utf8_text (named_literal_view named.now)) }
 {
@@ -170,7 +171,8 @@ fn utf8_text(alloc: Global, named: &(Ident<'_>, Literal<'_>)) -> Result<String, 
     Ok(text)
 }
 
-/// Reports that a subpattern, its name and its literal, can match invalid UTF-8.
+/// Reports that a subpattern can match invalid UTF-8. `named` contains the name and the literal of
+/// the subpattern.
 fn report_utf8(named: &(Ident<'_>, Literal<'_>), errors: &mut Errors) -> Result<(), Memory>
     ensures { OnOk result
         (AddsFault (utf8_subpattern (named_literal_view named.now)) errors.old errors.new) }
@@ -182,7 +184,8 @@ fn report_utf8(named: &(Ident<'_>, Literal<'_>), errors: &mut Errors) -> Result<
 impl<'s> Subpatterns<'s> {
     ghost use Rattle.logos_leaf.specs.subpattern.SubpatternViews.{names_of};
 
-    /// Returns the index of the subpattern that is called `name`, or `None` if there is none.
+    /// Returns the index of the subpattern that is called `name`, or `None` if there is no such
+    /// subpattern.
     fn slot(&self, name: &str) -> Option<usize>
         ensures slot { result ≡ slot_in (names_of self.now) name.now }
         ensures within { IfSome result (λ slot. slot < vec_len self.now.list) }
@@ -191,7 +194,8 @@ impl<'s> Subpatterns<'s> {
         Some(*slot)
     }
 
-    /// Returns the text of the subpattern that is called `name`, or `None` if there is none.
+    /// Returns the text of the subpattern that is called `name`, or `None` if there is no such
+    /// subpattern.
     pub(crate) fn find(&self, name: &str) -> Option<&str>
         ensures { option_map (λ (text : Bor (List ℕ)). text.now) result
             ≡ text_of (names_of self.now) name.now }
@@ -201,14 +205,15 @@ impl<'s> Subpatterns<'s> {
     }
 
     /// Returns the length in bytes of the text of the subpattern that is called `name`, and the
-    /// span of the name at its definition. Returns `None` if there is none.
+    /// span of the name in the subpattern's definition. Returns `None` if there is no such
+    /// subpattern.
     pub(crate) fn stored(&self, name: &str) -> Option<(usize, Span)> {
         let slot = self.slot(name)?;
         let subpattern = &self.list[slot];
         Some((subpattern.pattern.len(), subpattern.name.span))
     }
 
-    /// Appends a subpattern with a new name. After an error the subpatterns are unchanged.
+    /// Appends a subpattern whose name is new. After an error, the subpatterns are unchanged.
     fn push(&mut self, subpattern: Subpattern<'s>) -> Result<(), Memory>
         requires { slot_in (names_of self.old) subpattern.name.text.now ≡ None }
         ensures ok { OnOk result
@@ -221,8 +226,9 @@ impl<'s> Subpatterns<'s> {
         Ok(())
     }
 
-    /// Replaces the subpattern with the same name, and returns the former one. If there is none,
-    /// appends the subpattern and returns `None`. After an error the subpatterns are unchanged.
+    /// Replaces the subpattern with the same name, and returns the former subpattern. If there is
+    /// no subpattern with this name, appends `subpattern` and returns `None`. After an error, the
+    /// subpatterns are unchanged.
     fn put(&mut self, subpattern: Subpattern<'s>) -> Result<Option<Subpattern<'s>>, Memory>
         ensures former { IfOk result (λ former. option_map stored_of former
             ≡ stored_at (names_of self.old) subpattern.entry.name.text.now) }
@@ -237,8 +243,8 @@ impl<'s> Subpatterns<'s> {
         Ok(Some(mem::replace(&mut self.list[slot], subpattern)))
     }
 
-    /// Stores the subpattern `name` with the text `pattern`. Replaces and reports a former one with
-    /// the same name.
+    /// Stores the subpattern `name` with the text `pattern`. If a subpattern with this name already
+    /// exists, replaces it and reports both names.
     fn store(&mut self, name: Ident<'s>, pattern: String, errors: &mut Errors) -> Result<(), Memory>
         ensures { OnOk result (IsReport
             (stored_report (ident_slice name.entry) (string_bytes pattern) (names_of self.old))
@@ -251,8 +257,9 @@ impl<'s> Subpatterns<'s> {
         Ok(())
     }
 
-    /// Stores a subpattern with the text `pattern`, or reports it if `refused` is `true`: if the
-    /// UTF-8 mode does not allow it.
+    /// Stores a subpattern with the text `pattern`. If `refused` is `true`, reports instead that
+    /// the subpattern can match invalid UTF-8. `named` contains the name and the literal of the
+    /// subpattern.
     fn store_tested(
         &mut self,
         refused: bool,
@@ -272,7 +279,8 @@ impl<'s> Subpatterns<'s> {
     }
 
     /// Reads `text`, the text of a subpattern, as a pattern. Stores the subpattern if the text is a
-    /// pattern that the UTF-8 mode allows, and reports the fault otherwise.
+    /// pattern that `utf8_mode` allows, and reports the fault otherwise. `named` contains the name
+    /// and the literal of the subpattern.
     fn test(
         &mut self,
         utf8_mode: bool,
@@ -295,7 +303,8 @@ impl<'s> Subpatterns<'s> {
         self.store_tested(refused, named, text, errors)
     }
 
-    /// Adds a subpattern after the earlier ones, or reports the fault that it has.
+    /// Adds a subpattern after all earlier ones, or reports the fault that prevents it. `named`
+    /// contains the name and the literal of the subpattern.
     fn add(
         &mut self,
         utf8_mode: bool,
@@ -317,8 +326,8 @@ impl<'s> Subpatterns<'s> {
         self.test(utf8_mode, named, whole, errors)
     }
 
-    /// Returns the subpatterns with the names and literals of `list`, and reports their faults.
-    /// After an error some of these faults may have been added.
+    /// Returns the subpatterns with the names and literals in `list`, and reports their faults.
+    /// After an error, `errors` may already contain some of these faults.
     fn add_all(
         list: &[(Ident<'s>, Literal<'s>)],
         utf8_mode: bool,
@@ -338,9 +347,10 @@ impl<'s> Subpatterns<'s> {
         Ok(subpatterns)
     }
 
-    /// Returns the subpatterns with the names and literals of `list`, in order. Each can use the
-    /// ones before it. A later one replaces an earlier one with the same name. Reports the faults,
-    /// and leaves out each subpattern that has a fault of its own.
+    /// Returns the subpatterns with the names and literals in `list`, in order.
+    ///
+    /// A subpattern can use the subpatterns before it. A later subpattern replaces an earlier one
+    /// with the same name. Reports all faults. A subpattern with a fault of its own is omitted.
     ///
     /// # Errors
     ///
@@ -363,8 +373,8 @@ impl<'s> Subpatterns<'s> {
     }
 
     /// Returns `pattern` with each `(?&name)`, from the left, replaced by the text of the
-    /// subpattern `name`. The substituted texts are not searched for names. If a name has no
-    /// subpattern, reports that at `span`, once for each use, and returns `None`.
+    /// subpattern `name`. The substituted texts are not searched for names. If subpatterns are
+    /// missing, reports each use of a missing subpattern at `span` and returns `None`.
     ///
     /// # Errors
     ///

@@ -1,4 +1,4 @@
-//! Makes the leaves of variants from their attributes. `read_leaves` calls `add_variants` for all
+//! Makes the leaves of variants from their attributes. `source` calls `add_variants` for all
 //! variants.
 
 ghost use Rattle.std.specs.Prelude.{◌≡◌, ◌++◌, IfOk, OnOk, map, option_map};
@@ -23,15 +23,15 @@ use std::alloc::AllocError;
 use std::collections::HashSet;
 
 /// The declared type parameters of an enum, and the name of each type parameter whose type contains
-/// that parameter.
+/// the parameter itself.
 #[derive(Clone, Copy)]
 pub struct Types<'p, 's> {
     pub params: &'p TypeParams<'s>,
     pub held: &'p HashSet<&'s str>,
 }
 
-/// Returns the kind of the variant `name` with `field`, in whose type the parameters are replaced.
-/// Reports a type that becomes too deep.
+/// Returns the kind of the variant `name` with the field `field`. The type parameters in the
+/// field's type are replaced by their types. Reports the field if its type becomes too deep.
 fn value_kind<'s>(
     types: Types<'_, 's>,
     name: Ident<'s>,
@@ -50,8 +50,8 @@ fn value_kind<'s>(
 }
 
 /// Returns the kind of the variant `name` with `fields` in the parentheses at `span`. Reports the
-/// variant if it does not have exactly one field. Without fields it is skipped, and of several
-/// fields the first one counts.
+/// variant if it does not have exactly one field. The kind of a variant without fields is `Skip`.
+/// The kind of a variant with several fields has the type of the first field.
 fn tuple_kind<'s>(
     types: Types<'_, 's>,
     name: Ident<'s>,
@@ -72,8 +72,8 @@ fn tuple_kind<'s>(
     value_kind(types, name, first, errors)
 }
 
-/// Returns the kind of the variant `name` with `fields`. Reports fields that are not supported: a
-/// variant with named fields is skipped.
+/// Returns the kind of the variant `name` with `fields`. Reports fields that are not supported. The
+/// kind of a variant with named fields is `Skip`.
 fn kind_of<'s>(
     types: Types<'_, 's>,
     name: Ident<'s>,
@@ -94,8 +94,8 @@ fn kind_of<'s>(
     }
 }
 
-/// Reads a `token` attribute and returns its leaf. Returns `None` and reports the fault if it has
-/// no leaf.
+/// Reads a `token` attribute and returns its leaf. If a fault prevents the leaf, reports the fault
+/// and returns `None`.
 fn read_token<'s>(
     attribute: Attribute<'_, 's>,
     kind: &VariantKind<'s>,
@@ -114,8 +114,8 @@ fn read_token<'s>(
     token_leaf(definition, kind, &mut parser.errors)
 }
 
-/// Reads a `regex` attribute and returns its leaf. Returns `None` and reports the fault if it has
-/// no leaf.
+/// Reads a `regex` attribute and returns its leaf. If a fault prevents the leaf, reports the fault
+/// and returns `None`.
 fn read_regex<'s>(
     attribute: Attribute<'_, 's>,
     kind: &VariantKind<'s>,
@@ -135,8 +135,8 @@ fn read_regex<'s>(
     regex_leaf(definition, kind, subpatterns, &mut parser.errors)
 }
 
-/// Reads an attribute of a variant and returns its leaf. Returns `None` if it is not a `token` or
-/// `regex`, or has a fault without a leaf. Reports each fault.
+/// Reads an attribute of a variant and returns its leaf. Returns `None` if the attribute is neither
+/// a `token` nor a `regex`, or if a fault prevents the leaf. Reports all faults.
 fn read_attribute<'s>(
     attribute: Attribute<'_, 's>,
     kind: &VariantKind<'s>,
@@ -164,7 +164,7 @@ fn read_attribute<'s>(
     Ok(None)
 }
 
-/// Appends `leaf` to `leaves`, if there is one.
+/// Appends the leaf in `leaf` to `leaves`, if there is one.
 pub(crate) fn push_leaf<'s>(
     leaves: &mut Vec<Leaf<'s>>,
     leaf: Option<Leaf<'s>>,
@@ -178,7 +178,8 @@ pub(crate) fn push_leaf<'s>(
     }
 }
 
-/// Appends to `leaves` the leaves of all attributes of a variant, and reports their faults.
+/// Appends the leaves of all attributes of a variant to `leaves`, and reports the faults of the
+/// attributes.
 fn add_attributes<'s>(
     attributes: Tokens<'_, 's>,
     kind: &VariantKind<'s>,
@@ -200,7 +201,8 @@ fn add_attributes<'s>(
     Ok(())
 }
 
-/// Appends to `leaves` the leaves of a variant, and reports its faults.
+/// Appends the leaves of a variant to `leaves`, and reports the variant's faults. `held` contains
+/// the name of each type parameter whose type contains the parameter itself.
 fn add_variant<'s>(
     variant: &Variant<'_, 's>,
     held: &HashSet<&'s str>,
@@ -221,7 +223,9 @@ fn add_variant<'s>(
     add_attributes(variant.attributes, &kind, subpatterns, parser, leaves)
 }
 
-/// Appends to `leaves` the leaves of all variants, in source order, and reports their faults.
+/// Appends the leaves of all variants to `leaves`, in source order, and reports the variants'
+/// faults. `held` contains the name of each type parameter whose type contains the parameter
+/// itself.
 pub(crate) fn add_variants<'s>(
     variants: &[Variant<'_, 's>],
     held: &HashSet<&'s str>,

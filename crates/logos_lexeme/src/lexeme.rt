@@ -1,9 +1,8 @@
-//! Cuts a source text into lexemes: finds the kind and the end of the lexeme or gap at a byte
-//! offset.
+//! Finds the kind and the end of the lexeme or gap at a byte offset of a source.
 //!
-//! `lexeme_at` reads a literal if one opens at the offset, otherwise a comment, otherwise the
-//! lexeme that the character there can begin. Each byte is examined at most a few times.
-//! `logos_token` calls `lexeme_at` at each offset at which a lexeme or a gap begins.
+//! `lexeme_at` reads a literal if a literal opens at the offset, otherwise a comment, and otherwise
+//! the lexeme or gap that the character at the offset begins. Each byte is examined at most a few
+//! times. `logos_token` calls `lexeme_at` at each offset at which a lexeme or a gap begins.
 
 ghost use Rattle.std.specs.Prelude.{◌<◌, length, IfOk, IfErr};
 ghost use Rattle.logos_lexeme.specs.Views.{IsCharBoundary, IsNext, IsStuck};
@@ -27,7 +26,7 @@ pub struct Span {
     pub to: usize,
 }
 
-/// The spacing of a character of punctuation: whether more punctuation follows it directly.
+/// The spacing of a punctuation character: whether more punctuation follows directly.
 #[derive(Clone, Copy, Debug, PartialEq, Eq)]
 pub enum Spacing {
     /// Neither punctuation nor `'` follows directly, or a comment follows.
@@ -53,11 +52,11 @@ pub enum LexemeKind {
     /// White space, a comment that is not documentation, or U+FEFF at the start of the
     /// text.
     Gap,
-    /// An identifier, with its `r#` if it has one.
+    /// An identifier, including the `r#` of a raw identifier.
     Identifier,
-    /// A literal, with its suffix.
+    /// A literal, including its suffix.
     Literal,
-    /// A whole documentation comment; a line comment does not include the end of its line.
+    /// A documentation comment. A line comment does not include the end of its line.
     Doc,
     /// A character of punctuation, or the `'` of a lifetime.
     Punctuation(Spacing),
@@ -72,7 +71,7 @@ pub enum LexemeKind {
 pub enum LexicalKind {
     /// A character that begins no lexeme.
     BadCharacter,
-    /// A literal that is malformed. The span does not include its suffix.
+    /// A malformed literal. The span does not include the literal's suffix.
     BadLiteral,
     /// A literal or a comment without an end. The span reaches to the end of the text.
     Unterminated,
@@ -82,14 +81,15 @@ pub enum LexicalKind {
 
 /// Returns the kind of the lexeme or gap at the byte offset `from`, and the byte offset after it.
 ///
-/// Neighboring white space is one gap; each comment is a gap of its own.
+/// Consecutive white space is one gap, and each comment that is not documentation is a gap of its
+/// own.
 ///
 /// # Errors
 ///
-/// Returns `BadCharacter` with the span of the character if no lexeme begins with it,
-/// `Unterminated` with the span up to the end of the source if a literal or a comment does not end,
-/// and `BadLiteral` with the span of the literal without its suffix if it is malformed. Delimiters
-/// are not matched here, so `Unbalanced` is never returned.
+/// Returns `BadCharacter` with the span of the character if no lexeme or gap begins with the
+/// character, `Unterminated` with the span up to the end of the source if a literal or a comment
+/// does not end, and `BadLiteral` with the span of the literal without its suffix if the literal is
+/// malformed. Never returns `Unbalanced`, because this function does not match delimiters.
 pub fn lexeme_at(source: &str, from: usize) -> Result<(LexemeKind, usize), (LexicalKind, Span)>
     requires inside { from < length source.now }
     requires boundary { IsCharBoundary source.now from }

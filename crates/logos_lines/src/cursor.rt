@@ -1,5 +1,5 @@
-//! Cursors: offsets in a text that move forward with their lines and columns. Printers of tables
-//! move one cursor over ascending offsets instead of searching for each.
+//! Defines cursors: offsets in a text that move forward together with their lines and columns.
+//! Printers of tables move one cursor over ascending offsets instead of searching for each offset.
 
 ghost use Rattle.std.specs.Prelude.{◌≡◌, ◌≤◌, max, min, length};
 ghost use Rattle.logos_lines.specs.Views.{location_at};
@@ -7,7 +7,7 @@ ghost use Rattle.logos_lines.specs.Views.{location_at};
 use crate::location::Location;
 use std::marker::Model;
 
-/// A byte offset in a text, with its line and column, which moves only forward.
+/// A byte offset in a text, with its line and column. A cursor moves only forward.
 ///
 /// Moving one cursor over a whole text takes time linear in the length of the text.
 #[derive(Drop)]
@@ -41,8 +41,8 @@ impl<'t> Cursor<'t> {
         }
     }
 
-    /// Returns a cursor at the byte offset `offset` of the text `bytes`. Its line and column are
-    /// `location`.
+    /// Returns a cursor at the byte offset `offset` in the text `bytes`. `location` is the line and
+    /// the column of the offset.
     pub(crate) fn at(bytes: &'t [u8], offset: usize, location: Location) -> Cursor<'t>
         requires inside { offset ≤ length bytes.now }
         requires location { location ≡ location_at bytes.now offset }
@@ -62,8 +62,8 @@ impl<'t> Cursor<'t> {
         self.location
     }
 
-    /// Moves the cursor to a byte offset, or to the end of the text if the offset is past it. An
-    /// offset before the cursor changes nothing.
+    /// Moves the cursor to a byte offset, or to the end of the text if the offset is past the end.
+    /// Does nothing if the offset is before the cursor.
     pub fn go_to(&mut self, offset: usize)
         ensures { self.new ≡ record {
           text = self.old.text;

@@ -8,7 +8,7 @@ use crate::location::{Location, continues};
 use std::alloc::{AllocError, Global};
 use std::marker::Model;
 
-/// The distance between two stops, in bytes.
+/// The distance between two consecutive stops, in bytes.
 const STEP: usize = 256;
 
 /// A text with the offsets at which its lines begin. A line ends in LF or CR LF.
@@ -54,7 +54,8 @@ impl<'t> LineIndex<'t> {
     }
 
     /// Returns the line and the column of a byte offset. An offset past the end of the text is
-    /// treated as the end, and an offset inside a character as the offset after its first byte.
+    /// treated as the end of the text. An offset inside a character is treated as the offset after
+    /// the character's first byte.
     pub fn line_column(&self, offset: usize) -> Location
         ensures { result ≡ location_at self.now offset }
     {
@@ -65,8 +66,8 @@ impl<'t> LineIndex<'t> {
         cursor.location()
     }
 
-    /// Returns the byte offset of a line and a column, or `None` if the text has no such line, or
-    /// the line no such column. At character boundaries this is the inverse of `line_column`.
+    /// Returns the byte offset of a line and a column, or `None` if the text has no such line or
+    /// the line has no such column. At character boundaries, this is the inverse of `line_column`.
     pub fn offset(&self, line: usize, column: usize) -> Option<usize>
         ensures found { IfSome result (λ offset. IsCharBoundary self.now offset
             × (location_at self.now offset ≡ record { line = line; column = column })) }
@@ -88,9 +89,8 @@ impl<'t> LineIndex<'t> {
         Some(&self.text[start..end])
     }
 
-    /// Returns the text of a line without LF or CR LF, or `None` if the text has no such line, or
-    /// if the line has more than `most` bytes. Examines no more than `most` bytes and the end of
-    /// the line.
+    /// Returns the text of a line without LF or CR LF, or `None` if the text has no such line or
+    /// the line has more than `most` bytes. Examines at most `most` bytes and the end of the line.
     pub fn short_line(&self, line: usize, most: usize) -> Option<&'t str>
         ensures { MatchOption result (IsNoLine self.now line ⊎ IsLongLine self.now line most)
             (λ text. IsLineOf self.now line text.now × (length text.now ≤ most)) }
@@ -104,8 +104,8 @@ impl<'t> LineIndex<'t> {
         }
     }
 
-    /// Returns the byte offset at which the line `line` begins, or `None` if the text has no such
-    /// line.
+    /// Returns the byte offset at which the line with the number `line` begins, or `None` if the
+    /// text has no such line.
     fn start_of(&self, line: usize) -> Option<usize>
         ensures { MatchOption result (IsNoLine self.now line) (IsStart self.now line) }
     {
@@ -152,15 +152,16 @@ fn stops_of(alloc: Global, bytes: &[u8]) -> Result<Vec<Location>, AllocError>
     Ok(stops)
 }
 
-/// Returns whether the search for the column `column` ends before a character that begins with
-/// `byte` and is in the column `reached`: there, or before LF.
+/// Returns whether the search for the column `column` ends before `byte`, which is in the column
+/// `reached`. The search ends at the first byte of a character if the columns are equal or the
+/// character is LF.
 fn ends_search(byte: u8, reached: usize, column: usize) -> bool
     ensures { result ≡ ends_search byte reached column }
 {
     !continues(byte) & ((reached == column) | (byte == b'\n'))
 }
 
-/// Returns the column after a byte in the column `column` that is not LF.
+/// Returns the column after `byte`, a byte other than LF in the column `column`.
 fn next_column(byte: u8, column: usize) -> usize
     requires { column + 1 < 2 ^ 64 }
     ensures { result ≡ next_column byte column }
@@ -213,8 +214,8 @@ fn line_end(text: &str, start: usize) -> usize
     end
 }
 
-/// Returns the byte offset at which the line that begins at `start` ends, before its LF or CR LF,
-/// or `None` if the line has more than `most` bytes.
+/// Returns the byte offset at which the line that begins at `start` ends, before its LF or CR LF.
+/// Returns `None` if the line has more than `most` bytes.
 fn near_end(text: &str, start: usize, most: usize) -> Option<usize>
     requires { start ≤ length text.now }
     ensures value { MatchOption result (most < line_length (drop start text.now))

@@ -1,4 +1,4 @@
-//! A location: a line and a column. `index` and `cursor` compute locations.
+//! Defines locations, which consist of a line and a column. `index` and `cursor` compute locations.
 
 ghost use Rattle.std.specs.Prelude.{◌≡◌, ◌<◌, ◌+◌, ◌^◌, ℕ, List, IsCharBoundary};
 ghost use Rattle.logos_lines.specs.Views.{after_byte, continues, location_at};
@@ -18,7 +18,7 @@ impl Location {
         Location { line: 1, column: 1 }
     }
 
-    /// Returns the location after the byte `byte` at this location.
+    /// Returns the location after `byte`, a byte at this location.
     pub(crate) fn after(self, byte: u8) -> Location
         requires line { self.line + 1 < 2 ^ 64 }
         requires column { self.column + 1 < 2 ^ 64 }
@@ -41,7 +41,7 @@ impl Location {
     }
 }
 
-/// Returns whether a byte of UTF-8 continues a character that an earlier byte began.
+/// Returns whether `byte` is a continuation byte of UTF-8.
 pub(crate) fn continues(byte: u8) -> bool
     ensures { result ≡ continues byte }
 {

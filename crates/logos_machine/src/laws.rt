@@ -1,25 +1,25 @@
-//! Laws of the definitions. The contract of each function is a law. A proof uses a law by calling
-//! its function, which does nothing.
+//! Laws of lexers and their runs. The contract of each function is a law. A proof uses a law by
+//! calling the function, which does nothing.
 
 ghost use Rattle.logos_machine.specs.Views.{answers_of, EndIsRun, NextAddsItem, PartsAreOfTheWhole, RunsGoLater, RunsGoOver, AttemptsAgree};
 
 use crate::machine::Action;
 use logos_hir::leaf::LeafId;
 
-/// If `next` returns an item, the items that the lexer has returned are the earlier ones and then
-/// this item.
+/// If `next` returns an item, the items that the lexer has returned are the earlier items followed
+/// by this item.
 pub fn next_adds_its_item<C: Fn(LeafId, &[u8]) -> Action>(_callback: &C)
     ensures { NextAddsItem C.Fn }
 {}
 
-/// Once `next` returns `None`, the items that the lexer has returned are those of a run of its code
-/// on the input.
+/// Once `next` returns `None`, the items that the lexer has returned are the items of a run of its
+/// code on the input.
 pub fn items_given_are_a_run<C: Fn(LeafId, &[u8]) -> Action>(_callback: &C)
     ensures { EndIsRun C.Fn }
 {}
 
-/// A run with a callback is also a run with every callback whose possible actions include those of
-/// the first callback.
+/// A run with a callback is also a run with every callback whose possible actions include all
+/// possible actions of the first callback.
 pub fn runs_go_over<C: Fn(LeafId, &[u8]) -> Action, D: Fn(LeafId, &[u8]) -> Action>(
     callback: &C,
     other: &D,
@@ -33,14 +33,14 @@ pub fn attempts_agree()
     ensures { AttemptsAgree }
 {}
 
-/// A run does not depend on the bytes before it: with more bytes before the input there is a run
-/// with equal items, whose spans are moved by the number of these bytes.
+/// A run does not depend on preceding bytes. If bytes are inserted before the input, there is a run
+/// with equal items. The spans of these items are shifted by the number of inserted bytes.
 pub fn runs_go_later<C: Fn(LeafId, &[u8]) -> Action>(callback: &C)
     ensures { RunsGoLater (answers_of C.Fn callback.now) }
 {}
 
-/// The items that a lexer finds in consecutive parts of an input, where no later byte can change
-/// them, are the items of the whole input.
+/// If a lexer finds items in consecutive parts of an input, and no later byte can change these
+/// items, they are the items of the whole input.
 pub fn parts_are_of_the_whole<C: Fn(LeafId, &[u8]) -> Action>(callback: &C)
     ensures { PartsAreOfTheWhole (answers_of C.Fn callback.now) }
 {}

@@ -1,4 +1,4 @@
-//! Lexers, which run code values on inputs, also part by part. Used by `logos_scan`, `logos_stream`
+//! Lexers, which run codes on whole inputs or part by part. Used by `logos_scan`, `logos_stream`
 //! and `logos_relex`.
 
 #![tactic(auto)]

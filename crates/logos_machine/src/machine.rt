@@ -1,5 +1,5 @@
-//! Lexers, each of which is a code value on an input and returns the input's items one at a time.
-//! Used by `logos_scan`, `logos_stream`, `logos_relex` and users of the library.
+//! Lexers, which run codes on inputs and return the items of an input one at a time. Used by
+//! `logos_scan`, `logos_stream`, `logos_relex` and users of the library.
 
 ghost use Rattle.std.specs.Prelude.{◌≡◌, ◌<◌, ◌≤◌, length, option_map, slice_range, MatchBool, MatchOption, IfOk, IfErr, IsTrue, IsUtf8, drop, None};
 ghost use Rattle.logos_machine.specs.Views.{IsValidUpTo, calls_back_for, token, error, answers_of, begun, item_of, Yields, Ends, Keeps, MatchYields, Takes, TakesMatches};
@@ -18,7 +18,7 @@ use std::marker::Model;
 use walk::{Outcome, attempt};
 
 /// An element of a lexer's output: a match of a leaf, or an error. `span` is a range of byte
-/// offsets in the input, and `slice` is the input's bytes at the span.
+/// offsets in the input, and `slice` contains the input's bytes at the span.
 #[derive(Clone, Copy, Debug)]
 pub enum Item<'i> {
     /// A match of `leaf`.
@@ -36,15 +36,15 @@ pub enum Item<'i> {
     },
 }
 
-/// The error of an input that is not UTF-8, for a lexer in UTF-8 mode.
+/// The error for an input that is not UTF-8 if the lexer is in UTF-8 mode.
 #[derive(Clone, Copy, Debug, PartialEq, Eq)]
 pub struct NotUtf8 {
     /// The length in bytes of the longest prefix of the input that is UTF-8.
     pub valid_up_to: usize,
 }
 
-/// A lexer: a code on an input, which returns the input's items one at a time. Items borrow only
-/// the input, so they can outlive the lexer.
+/// A lexer, which runs a code on an input and returns the input's items one at a time. Items borrow
+/// only the input, so they can outlive the lexer.
 #[derive(Drop)]
 pub struct Lexer<'c, 's, 'i, C> {
     code: &'c Code<'s>,
@@ -77,16 +77,16 @@ impl<'c, 's, 'i, C> Model for Lexer<'c, 's, 'i, C> {
 }
 
 impl<'c, 's, 'i, C: Fn(LeafId, &[u8]) -> Action> Lexer<'c, 's, 'i, C> {
-    /// Returns a lexer at the start of a text. It calls `callback` for each match of a leaf that
-    /// has a callback.
+    /// Returns a lexer at the start of a text. The lexer calls `callback` for each match of a leaf
+    /// that has a callback.
     pub fn new_str(code: &'c Code<'s>, input: &'i str, callback: C) -> Lexer<'c, 's, 'i, C>
         ensures { result ≡ begun code.now input.now callback }
     {
         Lexer::start(code, input.as_bytes(), callback)
     }
 
-    /// Returns a lexer at the start of an input of bytes. It calls `callback` for each match of a
-    /// leaf that has a callback.
+    /// Returns a lexer at the start of an input of bytes. The lexer calls `callback` for each match
+    /// of a leaf that has a callback.
     ///
     /// # Errors
     ///
@@ -108,7 +108,8 @@ impl<'c, 's, 'i, C: Fn(LeafId, &[u8]) -> Action> Lexer<'c, 's, 'i, C> {
     }
 
     /// Returns a lexer at the start of an input of bytes, which must be UTF-8 if the code is in
-    /// UTF-8 mode. `logos_stream` calls this function, since it validates bytes when it reads them.
+    /// UTF-8 mode. `logos_stream` calls this function because it validates bytes when it reads
+    /// them.
     pub fn new_checked(code: &'c Code<'s>, input: &'i [u8], callback: C) -> Lexer<'c, 's, 'i, C>
         requires { IsTrue code.now.utf8 → IsUtf8 input.now }
         ensures { result ≡ begun code.now input.now callback }
@@ -170,8 +171,8 @@ impl<'c, 's, 'i, C: Fn(LeafId, &[u8]) -> Action> Lexer<'c, 's, 'i, C> {
         }
     }
 
-    /// Moves to the offset `to`: the span of the last item becomes `from..to`, and `steps` the
-    /// number of states that the last attempt entered.
+    /// Moves the lexer to the offset `to`, and sets the span of the last item to `from..to`.
+    /// `steps` is the number of states that the last attempt entered.
     #[inline(always)]
     fn status_after(&mut self, from: usize, to: usize, steps: usize)
         requires order { from ≤ to }
@@ -190,9 +191,10 @@ impl<'c, 's, 'i, C: Fn(LeafId, &[u8]) -> Action> Lexer<'c, 's, 'i, C> {
         self.steps = steps;
     }
 
-    /// Returns the span of the last item, in bytes of the input. It is `0..0` before the first
-    /// item. Once `next` has returned `None` it is empty at the end of the input, and after `More`
-    /// of `next_within` it is empty at the start of the next match attempt.
+    /// Returns the span of the last item, in bytes of the input. The span is `0..0` before the
+    /// first item. After `next` has returned `None`, the span is empty and at the end of the input.
+    /// After `next_within` has returned `More`, the span is empty and at the start of the next
+    /// match attempt.
     pub fn span(&self) -> Span
         ensures { result ≡ record { from = self.now.from; to = self.now.to } }
     {
@@ -238,7 +240,7 @@ impl<'c, 's, 'i, C: Fn(LeafId, &[u8]) -> Action> Lexer<'c, 's, 'i, C> {
     }
 
     /// Returns the number of states that the last attempt entered, or 0 before the first attempt.
-    /// `next_within` does not change it when it returns `More`.
+    /// The number is unchanged when `next_within` returns `More`.
     pub fn steps(&self) -> usize
         ensures { result ≡ self.now.steps }
     {
@@ -265,7 +267,7 @@ fn check_utf8(input: &[u8]) -> Result<(), NotUtf8>
     }
 }
 
-/// Returns the token of a match of `leaf` at `span` of the input.
+/// Returns the token for a match of `leaf` at `span` in the input.
 #[inline(always)]
 pub fn token<'i>(input: &'i [u8], leaf: LeafId, span: Span) -> Item<'i>
     requires order { span.from ≤ span.to }
@@ -280,7 +282,7 @@ pub fn token<'i>(input: &'i [u8], leaf: LeafId, span: Span) -> Item<'i>
     }
 }
 
-/// Returns the error at `span` of the input, whose bytes no leaf matches.
+/// Returns the error at `span` in the input, for bytes that no leaf matches.
 pub fn error<'i>(input: &'i [u8], span: Span) -> Item<'i>
     requires order { span.from ≤ span.to }
     requires within { span.to ≤ length input.now }
@@ -294,10 +296,10 @@ pub fn error<'i>(input: &'i [u8], span: Span) -> Item<'i>
     }
 }
 
-/// Returns the item of a match of `leaf` at `span` of the input: a token if the action is `Emit`,
-/// and an error if it is `Error`. Returns `None` if the action is `Skip`, or if it is `Emit` and
-/// the leaf is a skip. Calls the callback only for a leaf that has a callback; otherwise the action
-/// is `Emit`.
+/// Returns the item for a match of `leaf` at `span` in the input: a token if the action is `Emit`,
+/// and an error if the action is `Error`. Returns `None` if the action is `Skip`, or if the action
+/// is `Emit` and the leaf is a skip. Calls the callback only for a leaf that has a callback. For
+/// any other leaf, the action is `Emit`.
 #[inline(always)]
 pub fn matched_item<'i, C: Fn(LeafId, &[u8]) -> Action>(
     code: &Code,
@@ -326,7 +328,7 @@ pub fn matched_item<'i, C: Fn(LeafId, &[u8]) -> Action>(
     }
 }
 
-/// Returns the action for a match of `leaf`, whose bytes are `slice`: the result of the callback if
+/// Returns the action for a match of `leaf` with the bytes `slice`: the result of the callback if
 /// the leaf has a callback, and `Emit` otherwise.
 #[inline(always)]
 fn answer<C: Fn(LeafId, &[u8]) -> Action>(

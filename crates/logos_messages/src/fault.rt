@@ -11,22 +11,23 @@ use logos_page::Page;
 use logos_report::{KnownFault, Member, Part, Start, push_fault, push_put_in, put_in};
 use std::alloc::{AllocError, Global};
 
-/// A fault of a part of a file, with the clues about it.
+/// A fault of a part of a file, with the clues about the fault.
 #[derive(Clone, Copy)]
 pub(crate) struct FaultMessage<'f, 'c, 'p, 't> {
     pub(crate) part: Part<'p, 't>,
     pub(crate) known: KnownFault<'f>,
     /// The fault as a member of its set of ambiguous leaves, if there is a clue about the set.
     pub(crate) member: Option<Member<'c>>,
-    /// The patterns that explain the fault, which may be none.
+    /// The patterns that explain the fault, if any.
     pub(crate) starts: &'c [Start],
 }
 
-/// Appends to `lines` the line of a fault.
+/// Appends the line of a fault to `lines`.
 ///
 /// # Errors
 ///
-/// Returns `AllocError` if memory runs out for the report of the fault. Then nothing was appended.
+/// Returns `AllocError` if memory runs out for the report of the fault. In this case, nothing was
+/// appended.
 pub(crate) fn push_fault_line(
     lines: &mut JsonLines,
     alloc: Global,
@@ -42,8 +43,8 @@ pub(crate) fn push_fault_line(
     Ok(())
 }
 
-/// Appends the object of a fault, with its report `rendered` and `put_in`, the text about a
-/// substituted subpattern.
+/// Appends the object of a fault. `rendered` is the report of the fault, and `put_in` is the text
+/// about a substituted subpattern.
 fn push_message(
     lines: &mut JsonLines,
     message: FaultMessage<'_, '_, '_, '_>,
@@ -68,8 +69,8 @@ fn push_message(
     lines.end_object();
 }
 
-/// Returns the report of a fault without colors, or `None` if its span begins or ends in a long
-/// line.
+/// Returns the report of a fault without colors, or `None` if the span of the fault begins or ends
+/// in a long line.
 fn rendered(
     alloc: Global,
     message: FaultMessage<'_, '_, '_, '_>,
@@ -89,7 +90,7 @@ fn rendered(
 }
 
 /// Returns the text about the subpattern whose substitution shifts the byte of a fault, or `None`
-/// if there is none.
+/// if there is no such subpattern.
 fn put_in_text(
     alloc: Global,
     message: FaultMessage<'_, '_, '_, '_>,

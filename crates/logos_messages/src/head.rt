@@ -1,4 +1,4 @@
-//! Appends the first members in the line of a fault or a warning. Used by `fault`, `rest_line` and
+//! Appends the first members of the line for a fault or a warning. Used by `fault`, `rest_line` and
 //! `warnings`.
 
 ghost use Rattle.std.specs.Prelude.{◌≡◌, ◌++◌, [], ◌∷◌, codes, if◌then◌else◌};
@@ -26,7 +26,7 @@ pub(crate) fn push_message(lines: &mut JsonLines, message: &str)
     lines.push_text("message", message);
 }
 
-/// Appends the code of a fault as a member, which is null for a fault that is not an error.
+/// Appends a member with the code of a fault, or with null if the fault is not an error.
 pub(crate) fn push_code(lines: &mut JsonLines, code: FaultCode)
     ensures { Gains (code_member code) lines.old lines.new }
 {
@@ -37,14 +37,14 @@ pub(crate) fn push_code(lines: &mut JsonLines, code: FaultCode)
     }
 }
 
-/// Returns the level of a fault with this code, in rustc's words.
+/// Returns rustc's name for the level of a fault with the code `code`.
 fn level_of(code: FaultCode) -> &'static str
     ensures { result.now ≡ level_of code }
 {
     if is_error(code) { "error" } else { "note" }
 }
 
-/// Appends the code of an error as a member, whose value is an object.
+/// Appends a member with an object that contains the code of an error.
 fn push_error_code(lines: &mut JsonLines, code: FaultCode)
     ensures { Gains (error_tokens code) lines.old lines.new }
 {

@@ -1,5 +1,5 @@
 //! Writes faults and warnings as lines of JSON in rustc's schema of diagnostics, for editors and
-//! for CI. Called for `--message-format json`.
+//! for CI. Called for the option `--message-format json`.
 
 #![tactic(auto)]
 

@@ -1,4 +1,4 @@
-//! Appends the lines of a span, with its columns in each line. Used by `spans`.
+//! Appends the lines of a span, with the columns of the span in each line. Used by `spans`.
 
 ghost use Rattle.std.specs.Prelude.{◌≡◌, ◌≤◌, [], ◌∷◌, length, chars};
 ghost use Rattle.logos_messages.specs.Imports.{Gains, YieldsLineList, YieldsLines, first_column, last_column, marked_tokens};
@@ -7,13 +7,13 @@ use logos_json::JsonLines;
 use logos_lines::Location;
 use logos_report::Source;
 
-/// The maximum number of lines after the first one that a span may have for its lines to be shown.
+/// The maximum number of lines after the first line of a span whose lines are shown.
 const LINES: usize = 8;
 
-/// The maximum length of a line that is shown, in bytes.
+/// The maximum length in bytes of a line that is shown.
 pub(crate) const LONG: usize = 400;
 
-/// A span of a file, by the locations of its start and of its end.
+/// A span of a file: the locations of its start and of its end.
 #[derive(Clone, Copy)]
 pub(crate) struct Reach {
     pub(crate) first: Location,
@@ -21,7 +21,7 @@ pub(crate) struct Reach {
 }
 
 /// Appends a member with the list of a span's lines. Lines of more than `LONG` bytes are left out.
-/// If the span has more than `LINES` lines after its first one, the list is empty.
+/// The list is empty if the span has more than `LINES` lines after its first line.
 pub(crate) fn push_lines(lines: &mut JsonLines, source: &Source<'_>, reach: Reach)
     ensures { YieldsLineList source.now.text reach.first reach.last lines.old lines.new }
 {
@@ -30,8 +30,8 @@ pub(crate) fn push_lines(lines: &mut JsonLines, source: &Source<'_>, reach: Reac
     lines.end_list();
 }
 
-/// Appends the lines of a span that have at most `LONG` bytes, unless the span has more than
-/// `LINES` lines after its first one.
+/// Appends the lines of a span that have at most `LONG` bytes. Appends nothing if the span has more
+/// than `LINES` lines after its first line.
 fn push_each_line(lines: &mut JsonLines, source: &Source<'_>, reach: Reach)
     ensures { YieldsLines source.now.text reach.first reach.last lines.old lines.new }
 {
@@ -43,8 +43,8 @@ fn push_each_line(lines: &mut JsonLines, source: &Source<'_>, reach: Reach)
     }
 }
 
-/// Appends the line of a file with this number and the columns of a span in it, unless the line has
-/// more than `LONG` bytes or the file has no such line.
+/// Appends the line with the number `number` of a file, with the columns of a span in this line.
+/// Appends nothing if the line has more than `LONG` bytes or does not exist.
 fn push_line(lines: &mut JsonLines, source: &Source<'_>, reach: Reach, number: usize)
     requires after { reach.first.line ≤ number }
     requires before { number ≤ reach.last.line }
@@ -60,8 +60,8 @@ fn push_line(lines: &mut JsonLines, source: &Source<'_>, reach: Reach, number: u
     }
 }
 
-/// Returns the column at which a span begins in the line `number`: its own column in its first
-/// line, otherwise 1.
+/// Returns the column at which a span begins in the line with the number `number`: the column of
+/// the span's start in the first line, and 1 in any other line.
 fn first_column(reach: Reach, number: usize) -> usize
     ensures { result ≡ first_column reach.first number }
 {
@@ -72,8 +72,9 @@ fn first_column(reach: Reach, number: usize) -> usize
     }
 }
 
-/// Returns the column before which a span ends in the line `number` with this text: its own column
-/// in its last line, otherwise the column after the text.
+/// Returns the column before which a span ends in the line with the number `number` and the text
+/// `text`: the column of the span's end in the last line, and the column after the text in any
+/// other line.
 fn last_column(reach: Reach, number: usize, text: &str) -> usize
     ensures { result ≡ last_column reach.last number text.now }
 {
@@ -91,7 +92,8 @@ fn char_count(text: &str) -> usize
     text.chars().count()
 }
 
-/// Appends an object for a line with this text, and with the columns `from..to` of a span in it.
+/// Appends the object of a line with the text `text`. A span has the columns `from..to` in this
+/// line.
 fn push_marked(lines: &mut JsonLines, text: &str, from: usize, to: usize)
     ensures { Gains (marked_tokens (record { text = text.now; from = from; to = to })) lines.old
         lines.new }

@@ -1,5 +1,5 @@
-//! Appends the faults of a source as lines of JSON: a line for each fault, but for at most 50 with
-//! one code. Used by `logos_expand` and `logos_show`.
+//! Appends a line of JSON for each fault of a source, but for at most 50 faults with one code. Used
+//! by `logos_expand` and `logos_show`.
 
 ghost use Rattle.std.specs.Prelude.{◌≡◌, ◌≤◌, ◌<◌, ◌+◌, ◌++◌, List, ℕ, IfOk, OnErr, OnOk, length, take};
 ghost use Rattle.logos_json.specs.Lines.{LinesValue};
@@ -15,14 +15,16 @@ use logos_report::{
 use logos_token::error::{Errors, Memory};
 use std::alloc::{AllocError, Global};
 
-/// Appends a line of JSON for each fault of a part of a file, in order. A line has the members of
-/// rustc's diagnostics, of which `rendered` is the report by `push_faults`, without colors. The
-/// clues about a fault are among its notes.
+/// Appends a line of JSON for each fault of a part of a file, in order.
+///
+/// A line has the members of rustc's diagnostics. The member `rendered` is the report that
+/// `push_faults` appends, without colors. The clues about a fault are among its notes.
 ///
 /// At most 50 faults with one code have a line. Instead of the 51st fault, a line of the level
-/// `failure-note` has the number of faults that are left out. Lines of the file that have more than
-/// 400 bytes are left out, and `rendered` is null if the span of the fault begins or ends in such a
-/// line. Thus the appended lines take memory linear in the messages of the faults that have a line.
+/// `failure-note` states the number of faults that are left out. Lines of the file that have more
+/// than 400 bytes are left out, and `rendered` is null if the span of the fault begins or ends in
+/// such a line. Thus the appended lines take memory linear in the messages of the faults that have
+/// a line.
 ///
 /// # Errors
 ///
@@ -43,8 +45,8 @@ pub fn push_messages(
     Ok(())
 }
 
-/// Appends the lines of the faults of these parts of a file, in order, as `push_messages` does. At
-/// most 50 faults with one code in all parts together have a line.
+/// Appends the lines for the faults of the parts `refused` of a file, in order, as `push_messages`
+/// does. At most 50 faults with one code in all parts together have a line.
 ///
 /// # Errors
 ///
@@ -64,7 +66,7 @@ pub fn push_refused_messages(
     Ok(())
 }
 
-/// Returns the lines of the faults of a part of a file.
+/// Returns the lines for the faults of a part of a file.
 fn message_lines(
     alloc: Global,
     part: Part<'_, '_>,
@@ -85,7 +87,7 @@ fn message_lines(
     Ok(bytes)
 }
 
-/// Returns the lines of the faults of these parts of a file.
+/// Returns the lines for the faults of the parts `refused` of a file.
 fn refused_lines(
     alloc: Global,
     source: &Source<'_>,
@@ -99,7 +101,7 @@ fn refused_lines(
     Ok(bytes)
 }
 
-/// Appends the lines of the faults of these parts of a file.
+/// Appends the lines for the faults of the parts `refused` of a file.
 fn push_parts(
     lines: &mut JsonLines,
     alloc: Global,
@@ -114,7 +116,7 @@ fn push_parts(
     Ok(())
 }
 
-/// Appends the lines of the faults of the part at the index `number`.
+/// Appends the lines for the faults of the part at the index `number` of `refused`.
 fn push_part(
     lines: &mut JsonLines,
     alloc: Global,
@@ -143,8 +145,8 @@ fn push_part(
     Ok(())
 }
 
-/// Appends the lines of the faults of a part, `listing.faults`. `first` has the clues at the first
-/// of them.
+/// Appends the lines for the faults `listing.faults` of a part. `first` has the clues about these
+/// faults, beginning with the first fault.
 fn push_all(
     lines: &mut JsonLines,
     alloc: Global,
@@ -177,9 +179,9 @@ fn push_all(
     Ok(())
 }
 
-/// Appends the line of the fault at the index `number` of a part, if fewer than 50 faults with its
-/// code precede it in the file. In place of the 51st fault with a code, appends a line with the
-/// number of faults that are left out. Appends nothing for a later one.
+/// Appends the line for the fault at the index `number` of a part if fewer than 50 faults with its
+/// code precede it in the file. If exactly 50 faults precede it, appends a line with the number of
+/// faults that are left out. If more than 50 faults precede it, appends nothing.
 fn push_counted(
     lines: &mut JsonLines,
     alloc: Global,

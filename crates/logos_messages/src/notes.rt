@@ -8,7 +8,7 @@ use crate::fault::FaultMessage;
 use logos_json::JsonLines;
 use logos_report::{MOST, Member, Start};
 
-/// Appends the notes and the help of a fault, as a member with a list.
+/// Appends a member with the list of the notes and the help of a fault.
 pub(crate) fn push_notes(
     lines: &mut JsonLines,
     message: FaultMessage<'_, '_, '_, '_>,
@@ -25,7 +25,7 @@ pub(crate) fn push_notes(
 }
 
 /// Appends a note with `put_in`, the text about the subpattern whose substitution shifts the byte
-/// of a fault, or nothing for `None`.
+/// of a fault. Appends nothing if `put_in` is `None`.
 fn push_put_in(lines: &mut JsonLines, put_in: &Option<String>)
     ensures { YieldsNotes lines.old lines.new }
 {
@@ -34,8 +34,8 @@ fn push_put_in(lines: &mut JsonLines, put_in: &Option<String>)
     }
 }
 
-/// Appends a note with the name of the leaf for each of the first 50 patterns that can examine the
-/// bytes before their start.
+/// Appends a note for each of the first 50 patterns that can examine the bytes before their start.
+/// The note has the name of the leaf.
 fn push_starts(lines: &mut JsonLines, starts: &[Start])
     ensures { YieldsNotes lines.old lines.new }
 {
@@ -44,8 +44,8 @@ fn push_starts(lines: &mut JsonLines, starts: &[Start])
     }
 }
 
-/// Appends the clue about the set of ambiguous leaves of a fault, and the help for the fault, if
-/// there are any.
+/// Appends the clue about the set of ambiguous leaves of a fault, if any, and the help for the
+/// fault, if any.
 fn push_advice(lines: &mut JsonLines, message: FaultMessage<'_, '_, '_, '_>)
     ensures { YieldsNotes lines.old lines.new }
 {
@@ -53,8 +53,8 @@ fn push_advice(lines: &mut JsonLines, message: FaultMessage<'_, '_, '_, '_>)
     push_help(lines, message.known.help);
 }
 
-/// Appends a note with the clue about the set of ambiguous leaves of `member`, or nothing for
-/// `None`.
+/// Appends a note with the clue about the set of ambiguous leaves of `member`. Appends nothing if
+/// `member` is `None`.
 fn push_known(lines: &mut JsonLines, member: Option<Member<'_>>)
     ensures { YieldsNotes lines.old lines.new }
 {
@@ -63,7 +63,7 @@ fn push_known(lines: &mut JsonLines, member: Option<Member<'_>>)
     }
 }
 
-/// Returns a reference to a text, or `None` if there is no text.
+/// Returns a reference to the text, or `None` if `text` is `None`.
 pub(crate) fn text_of(text: &Option<String>) -> Option<&str>
     ensures { option_map (λ t. t.now) result ≡ option_map string_bytes text.now }
 {
@@ -73,14 +73,14 @@ pub(crate) fn text_of(text: &Option<String>) -> Option<&str>
     }
 }
 
-/// Appends the object of a note or a help with this text. `level` is `note` or `help`.
+/// Appends the object of a note or a help with the text `text`. `level` is `note` or `help`.
 pub(crate) fn push_one(lines: &mut JsonLines, level: &str, text: &str)
     ensures { YieldsNotes lines.old lines.new }
 {
     push_note(lines, level, text);
 }
 
-/// Appends a note for each line of a message after its first one, without empty lines.
+/// Appends a note for each non-empty line of a message after the first line.
 fn push_other_lines(lines: &mut JsonLines, message: &str)
     ensures { YieldsNotes lines.old lines.new }
 {
@@ -89,7 +89,8 @@ fn push_other_lines(lines: &mut JsonLines, message: &str)
     }
 }
 
-/// Appends a note for a line of a message, without its leading blanks, unless it is empty.
+/// Appends a note with a line of a message, without the leading blanks of the line. Appends nothing
+/// if the line is empty.
 fn push_other_line(lines: &mut JsonLines, text: &str)
     ensures { YieldsNotes lines.old lines.new }
 {
@@ -98,7 +99,7 @@ fn push_other_line(lines: &mut JsonLines, text: &str)
     }
 }
 
-/// Appends the object with the help for a fault, if there is one.
+/// Appends the object with the help for a fault. Appends nothing if `help` is `None`.
 fn push_help(lines: &mut JsonLines, help: Option<&str>)
     ensures { YieldsNotes lines.old lines.new }
 {
@@ -107,7 +108,7 @@ fn push_help(lines: &mut JsonLines, help: Option<&str>)
     }
 }
 
-/// Appends the object of a note or a help with this text. `level` is `note` or `help`.
+/// Appends the object of a note or a help with the text `text`. `level` is `note` or `help`.
 fn push_note(lines: &mut JsonLines, level: &str, text: &str)
     ensures { Gains (note_tokens (record { level = level.now; text = text.now })) lines.old lines.new }
 {
@@ -119,7 +120,7 @@ fn push_note(lines: &mut JsonLines, level: &str, text: &str)
     lines.end_object();
 }
 
-/// Appends the members that a note leaves empty: its spans, its notes and its report.
+/// Appends the members that are empty in a note: the spans, the notes and the report.
 fn push_nothing_else(lines: &mut JsonLines)
     ensures { Gains nothing_tokens lines.old lines.new }
 {

@@ -1,4 +1,4 @@
-//! Appends the line with the number of faults with a code that are left out. Used by `messages`.
+//! Appends the line that states how many faults with a code are left out. Used by `messages`.
 
 ghost use Rattle.std.specs.Prelude.{◌≡◌, ◌++◌, ◌∷◌, [], false, IfOk, OnOk, codes, decimal, string_bytes};
 ghost use Rattle.logos_messages.specs.Imports.{Gains, PutsRest, InReport, left_out_tokens, rest_line};
@@ -11,12 +11,12 @@ use logos_report::push_rest;
 use logos_token::error::FaultCode;
 use std::alloc::{AllocError, Global};
 
-/// Appends to `lines` the line with `count`, the number of faults with a code that are left out.
+/// Appends to `lines` the line that states that `count` faults with the code `code` are left out.
 ///
 /// # Errors
 ///
-/// Returns `AllocError` if memory runs out for the message or the report of the line. Then nothing
-/// was appended.
+/// Returns `AllocError` if memory runs out for the message or the report of the line. In this case,
+/// nothing was appended.
 pub(crate) fn push_rest_line(
     lines: &mut JsonLines,
     alloc: Global,
@@ -32,7 +32,7 @@ pub(crate) fn push_rest_line(
     Ok(())
 }
 
-/// Returns the message with `count`, the number of faults that are left out.
+/// Returns the message that `count` faults are left out.
 fn rest_message(alloc: Global, count: usize) -> Result<String, AllocError>
     ensures { IfOk result (λ text. string_bytes text ≡ decimal count ++ codes " more are not shown") }
 {
@@ -43,7 +43,7 @@ fn rest_message(alloc: Global, count: usize) -> Result<String, AllocError>
     }
 }
 
-/// Returns the report with `count`, the number of faults with a code that are left out.
+/// Returns the report that `count` faults with the code `code` are left out.
 fn rest_report(alloc: Global, code: FaultCode, count: usize) -> Result<String, AllocError>
     ensures { IfOk result (λ text.
         InReport false (rest_line false code count ∷ []) (string_bytes text)) }
@@ -54,8 +54,8 @@ fn rest_report(alloc: Global, code: FaultCode, count: usize) -> Result<String, A
     Ok(text)
 }
 
-/// Appends the object for the faults with a code that are left out, with this message and the
-/// report `rendered`.
+/// Appends the object for the faults with the code `code` that are left out, with the message
+/// `message` and the report `rendered`.
 fn push_object(lines: &mut JsonLines, code: FaultCode, message: &str, rendered: &str)
     ensures { Gains (left_out_tokens message.now code rendered.now) lines.old lines.new }
 {

@@ -8,7 +8,7 @@ use logos_json::JsonLines;
 use logos_report::Part;
 use logos_token::token::Span;
 
-/// Appends the object of a span of a part of a file, which is the primary span of its fault if
+/// Appends the object of a span of a part of a file. The span is the primary span of its fault if
 /// `label` is `None`.
 fn push_span(lines: &mut JsonLines, part: Part<'_, '_>, span: Span, label: Option<&str>)
     ensures { YieldsSpan part.entry.source.now part.entry.offset span (option_map (λ t. t.now) label.entry)
@@ -26,7 +26,7 @@ fn push_span(lines: &mut JsonLines, part: Part<'_, '_>, span: Span, label: Optio
     lines.end_object();
 }
 
-/// Appends the second span `also` of a fault or a warning, or nothing for `None`.
+/// Appends the second span `also` of a fault or a warning. Appends nothing if `also` is `None`.
 fn push_other(lines: &mut JsonLines, part: Part<'_, '_>, also: Option<Span>)
     ensures { YieldsOther part.entry.source.now part.entry.offset also lines.old lines.new }
 {
@@ -35,8 +35,8 @@ fn push_other(lines: &mut JsonLines, part: Part<'_, '_>, also: Option<Span>)
     }
 }
 
-/// Appends the spans of a fault or a warning as a member with a list: the primary span `span`, and
-/// the second span `also`, if there is one. Both are in bytes of the part.
+/// Appends a member with the list of the spans of a fault or a warning: the primary span `span`,
+/// and the second span `also` if it is not `None`. Both spans are in bytes of the part.
 pub(crate) fn push_spans(lines: &mut JsonLines, part: Part<'_, '_>, span: Span, also: Option<Span>)
     ensures { YieldsSpanList part.entry.source.now part.entry.offset span also lines.old lines.new }
 {
@@ -66,8 +66,8 @@ fn push_locations(lines: &mut JsonLines, reach: Reach)
     lines.push_number("column_end", reach.last.column);
 }
 
-/// Appends the members which state whether a span is the primary span of its fault, as it is if
-/// `label` is `None`, and its label.
+/// Appends a member that states whether a span is the primary span of its fault, and a member with
+/// the label of the span. The span is primary if `label` is `None`.
 fn push_label(lines: &mut JsonLines, label: Option<&str>)
     ensures { Gains (label_tokens (option_map (λ t. t.now) label.entry)) lines.old lines.new }
 {
@@ -77,7 +77,8 @@ fn push_label(lines: &mut JsonLines, label: Option<&str>)
     }
 }
 
-/// Appends the members of a second span which state that it is not primary, and its label.
+/// Appends a member that states that a span is not primary, and a member with the label of the
+/// span.
 fn push_other_label(lines: &mut JsonLines, label: &str)
     ensures { Gains (label_tokens (Some label.now)) lines.old lines.new }
 {
@@ -85,7 +86,7 @@ fn push_other_label(lines: &mut JsonLines, label: &str)
     lines.push_text("label", label);
 }
 
-/// Appends the members of a primary span which state that it is primary, and has no label.
+/// Appends a member that states that a span is primary, and a null label.
 fn push_primary(lines: &mut JsonLines)
     ensures { Gains (label_tokens None) lines.old lines.new }
 {
@@ -103,7 +104,7 @@ pub(crate) fn has_long_line(part: Part<'_, '_>, span: Span) -> bool
     is_long(part, span.to)
 }
 
-/// Returns whether the line with the byte `offset` of a part has more than `LONG` bytes.
+/// Returns whether the line that contains the byte `offset` of a part has more than `LONG` bytes.
 fn is_long(part: Part<'_, '_>, offset: usize) -> bool
     ensures { IsTrue result → IsLongAt part.entry.source.now part.entry.offset offset }
 {

@@ -1,5 +1,5 @@
-//! Appends the warnings of a part of a file as lines of JSON: a line for each of the first 50. Used
-//! by `logos_file_warnings`.
+//! Appends a line of JSON for each of the first 50 warnings of a part of a file. Used by
+//! `logos_file_warnings`.
 
 ghost use Rattle.std.specs.Prelude.{◌≡◌, ◌++◌, ℕ, List, None, false, IfOk, IfSome, OnErr, OnOk, option_map, string_bytes};
 ghost use Rattle.logos_messages.specs.Imports.{AreWarnings, Gains, HasLongLine, YieldsMessage, YieldsNoteList, YieldsNotes, PutsWarning, PutsWarnings, InReport, shown_of, warning_head, warning_texts};
@@ -13,9 +13,11 @@ use logos_report::{Part, Warning, first_of, push_warning};
 use logos_token::error::Memory;
 use std::alloc::{AllocError, Global};
 
-/// Appends a line of JSON for each of the first 50 warnings of a part of a file, in order. A line
-/// has the members of rustc's diagnostics, of which `rendered` is the report of the warning without
-/// colors, or null if the span of the warning begins or ends in a line of more than 400 bytes.
+/// Appends a line of JSON for each of the first 50 warnings of a part of a file, in order.
+///
+/// A line has the members of rustc's diagnostics. The member `rendered` is the report of the
+/// warning without colors, or null if the span of the warning begins or ends in a line of more than
+/// 400 bytes.
 ///
 /// # Errors
 ///
@@ -35,7 +37,7 @@ pub fn push_warning_messages(
     Ok(())
 }
 
-/// Returns the lines of these warnings.
+/// Returns the lines for `warnings`.
 fn warning_lines(
     alloc: Global,
     part: Part<'_, '_>,
@@ -50,7 +52,7 @@ fn warning_lines(
     Ok(bytes)
 }
 
-/// Appends the lines of these warnings.
+/// Appends the lines for `warnings`.
 fn push_all(
     lines: &mut JsonLines,
     alloc: Global,
@@ -66,7 +68,7 @@ fn push_all(
     Ok(())
 }
 
-/// Appends the line of a warning.
+/// Appends the line for a warning.
 fn push_line(
     lines: &mut JsonLines,
     alloc: Global,
@@ -82,7 +84,8 @@ fn push_line(
     Ok(())
 }
 
-/// Appends the object of a warning, with the report `rendered`, or null for `None`.
+/// Appends the object of a warning with the report `rendered`, or with null if `rendered` is
+/// `None`.
 fn push_object(lines: &mut JsonLines, part: Part<'_, '_>, warning: &Warning, rendered: Option<&str>)
     ensures { YieldsMessage part.entry.source.now part.entry.offset
         (warning_head (string_bytes warning.now.message)) warning.now.span warning.now.also
@@ -105,7 +108,7 @@ fn push_head(lines: &mut JsonLines, message: &str)
     lines.push_text("level", "warning");
 }
 
-/// Appends the note and the help of a warning, as a member with a list.
+/// Appends a member with the list of the note and the help of a warning.
 fn push_notes(lines: &mut JsonLines, warning: &Warning)
     ensures { YieldsNoteList lines.old lines.new }
 {
@@ -115,7 +118,8 @@ fn push_notes(lines: &mut JsonLines, warning: &Warning)
     lines.end_list();
 }
 
-/// Appends a note or a help with this level and text, or nothing for `None`.
+/// Appends the object of a note or a help with the level `level` and the text `text`. Appends
+/// nothing if `text` is `None`.
 fn push_text(lines: &mut JsonLines, level: &str, text: Option<&str>)
     ensures { YieldsNotes lines.old lines.new }
 {
@@ -124,8 +128,8 @@ fn push_text(lines: &mut JsonLines, level: &str, text: Option<&str>)
     }
 }
 
-/// Returns the report of a warning without colors, or `None` if its span begins or ends in a long
-/// line.
+/// Returns the report of a warning without colors, or `None` if the span of the warning begins or
+/// ends in a long line.
 fn rendered(
     alloc: Global,
     part: Part<'_, '_>,

@@ -11,11 +11,11 @@ use logos_host::Failure;
 #[derive(Clone, Copy)]
 pub struct GivenOption<'w> {
     pub option: OptionName,
-    /// The value, which is empty if the option takes none.
+    /// The value of the option, or an empty text if the option takes no value.
     pub value: &'w str,
 }
 
-/// The meaning of an argument, or of an option and the argument with its value.
+/// The meaning of an argument, or of an option together with the next argument, the option's value.
 #[derive(Clone, Copy)]
 pub enum Use<'w> {
     /// A path.
@@ -27,14 +27,14 @@ pub enum Use<'w> {
 /// The progress of reading a command line after some of its arguments.
 #[derive(Clone, Copy)]
 pub struct ArgumentProgress {
-    /// The option whose value the next argument is, if there is one.
+    /// The option whose value is the next argument, if there is such an option.
     pub pending: Option<OptionName>,
-    /// Whether `--` was read, after which all arguments are paths.
+    /// Whether `--` was read. All arguments after `--` are paths.
     pub is_over: bool,
 }
 
-/// The result of reading one more argument: the progress after it, and its meaning if it completes
-/// a path or an option.
+/// The result of reading one argument: the progress after the argument, and the path or the option
+/// that the argument completes, if there is one.
 #[derive(Clone, Copy)]
 pub struct ArgumentStep<'w> {
     pub progress: ArgumentProgress,
@@ -74,7 +74,7 @@ pub fn next_step<'w>(
     step_written(progress, word)
 }
 
-/// Returns the step to `progress` that found the path or the option `one`.
+/// Returns the step that leads to `progress` and has found `one`, a path or an option.
 fn found<'w>(progress: ArgumentProgress, one: Use<'w>) -> ArgumentStep<'w>
     ensures { result ≡ record { progress = progress; found = Some one.entry } }
 {
@@ -160,7 +160,7 @@ fn step_assigned<'w>(
     }
 }
 
-/// Returns the parts before and after the first `=` of an argument, or `None` if it has no `=`.
+/// Returns the parts of an argument before and after its first `=`, or `None` if it has no `=`.
 fn split_at_equals(word: &str) -> Option<(&str, &str)>
     ensures { option_map (λ parts. (parts.0.now, parts.1.now)) result ≡ split_at_equals word.now }
 {
@@ -170,7 +170,7 @@ fn split_at_equals(word: &str) -> Option<(&str, &str)>
     }
 }
 
-/// Returns the failure for an argument that is not an option, without a nearest option.
+/// Returns the failure for `word`, which is not an option. The failure has no nearest option.
 fn unknown<'w>(word: &'w str) -> Failure<'w>
     ensures { status_of result ≡ 2 }
 {

@@ -10,14 +10,14 @@ use crate::paths::path_by_word;
 use crate::program::Program;
 use logos_host::Failure;
 
-/// The arguments of a command line, as far as they were read.
+/// The arguments that have been read from a command line.
 #[derive(Clone, Copy)]
 pub struct Arguments<'w> {
     /// The first path, if there is one.
     pub first: Option<&'w str>,
     /// The second path, if there is one.
     pub second: Option<&'w str>,
-    /// The settings that are given.
+    /// The settings on the command line.
     pub settings: Settings<'w>,
     /// The question, such as `--examples`, if there is one.
     pub question: Option<GivenOption<'w>>,
@@ -30,7 +30,8 @@ pub struct Arguments<'w> {
 /// The settings of a command line, with their values.
 #[derive(Clone, Copy)]
 pub struct Settings<'w> {
-    /// For each option, by its number, its value, or `None` if the option is not given.
+    /// The value of each option, indexed by the option's number, or `None` if the option is not
+    /// given.
     values: [Option<&'w str>; OPTIONS],
 }
 
@@ -63,8 +64,8 @@ impl<'w> Settings<'w> {
 /// # Errors
 ///
 /// Returns `UnknownOption` for an option that the program does not take. Returns `Misuse` if an
-/// option lacks its value or has a value that it does not take, if a setting is given twice, and
-/// for a second question, or a third path of `logos_show`.
+/// option lacks its value or has a value that it does not take, if a setting is given twice, if
+/// there is a second question, or if there is a third path of `logos_show`.
 pub fn arguments_of(program: Program, arguments: &[String]) -> Result<Arguments<'_>, Failure<'_>>
     ensures read { IfOk result (λ parsed.
         arguments_of program (map string_bytes arguments.now) ≡ Some (arguments_value parsed)) }
@@ -85,7 +86,7 @@ pub fn misuse<'w>(what: &'static str, word: &'w str) -> Failure<'w>
     Failure::Misuse { what, word }
 }
 
-/// Returns the paths and the options in these arguments, up to an option that requests a text.
+/// Returns the paths and the options in `arguments`, up to an option that requests a text.
 fn read_arguments(program: Program, arguments: &[String]) -> Result<Arguments<'_>, Failure<'_>>
     ensures read { IfOk result (λ parsed. with_arguments program (Some nothing_given)
         (map string_bytes arguments.now) ≡ Some (arguments_value parsed)) }
@@ -127,7 +128,8 @@ fn settled(arguments: Arguments<'_>) -> Result<Arguments<'_>, Failure<'_>>
     }
 }
 
-/// Returns `arguments` with the argument `word`, or unchanged if a text is requested.
+/// Returns `arguments` with the argument `word` added. If a text is requested, returns `arguments`
+/// unchanged.
 fn read_word<'w>(
     program: Program,
     arguments: Arguments<'w>,
@@ -165,7 +167,8 @@ fn has_text(text: Option<OptionName>) -> bool
     }
 }
 
-/// Returns `arguments` with the path or the option in `found`, or unchanged for `None`.
+/// Returns `arguments` with the path or the option in `found` added. If `found` is `None`, returns
+/// `arguments` unchanged.
 fn read_found<'w>(
     program: Program,
     arguments: Arguments<'w>,
@@ -194,8 +197,9 @@ fn unknown<'w>(option: OptionName) -> Failure<'w>
     }
 }
 
-/// Returns `arguments` with a path, if it is the first or the second one. A later path is `Misuse`
-/// for `logos_show`, and changes nothing for `logos_cli`, which reads its paths with `paths_of`.
+/// Returns `arguments` with `path` as the first or the second path. If `arguments` has two paths
+/// already, returns `Misuse` for `logos_show`, and `arguments` unchanged for `logos_cli`.
+/// `logos_cli` reads its paths with `paths_of`.
 fn read_path<'w>(
     program: Program,
     arguments: Arguments<'w>,
@@ -221,7 +225,7 @@ fn read_path<'w>(
     }
 }
 
-/// Returns `arguments` with an option that the program takes.
+/// Returns `arguments` with the option `one` added. The program takes this option.
 fn read_option<'w>(
     arguments: Arguments<'w>,
     one: GivenOption<'w>,
@@ -241,7 +245,7 @@ fn read_option<'w>(
     }
 }
 
-/// Returns `arguments` with a setting, or `Misuse` if the setting was given before.
+/// Returns `arguments` with a setting added, or `Misuse` if the setting was given before.
 fn read_setting<'w>(
     arguments: Arguments<'w>,
     one: GivenOption<'w>,
@@ -260,7 +264,7 @@ fn read_setting<'w>(
     })
 }
 
-/// Returns the settings with the option `one` and its value.
+/// Returns `settings` with the value of the option `one` added.
 fn settings_with<'w>(settings: Settings<'w>, one: GivenOption<'w>) -> Settings<'w>
     ensures { settings_value result
         ≡ set (settings_value settings.entry) (number one.entry.option) (Some one.entry.value.now) }
@@ -270,7 +274,7 @@ fn settings_with<'w>(settings: Settings<'w>, one: GivenOption<'w>) -> Settings<'
     Settings { values }
 }
 
-/// Returns `arguments` with a question, or `Misuse` if a question was given before.
+/// Returns `arguments` with a question added, or `Misuse` if a question was given before.
 fn read_question<'w>(
     arguments: Arguments<'w>,
     one: GivenOption<'w>,

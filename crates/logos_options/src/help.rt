@@ -22,7 +22,7 @@ pub struct HelpText {
 /// # Errors
 ///
 /// Returns `Closed` if the reader has closed the output, and `Output` if writing fails for another
-/// reason. Then a part of the help may have been written.
+/// reason. A part of the help may then have been written.
 pub fn print_help<'w, O: Write>(
     program: Program,
     help: HelpText,
@@ -46,7 +46,7 @@ fn write_help<O: Write>(program: Program, help: HelpText, out: &mut O) -> io::Re
     out.flush()
 }
 
-/// Writes the lines for the options in `rows` that a program takes, in the help of the program.
+/// Writes the lines in a program's help for the options in `rows` that the program takes.
 fn write_rows<O: Write>(program: Program, rows: &[OptionRow], out: &mut O) -> io::Result<()> {
     for row in rows {
         out.write_all(program.help_of(row).as_bytes())?;

@@ -1,5 +1,5 @@
-//! Laws of command-line arguments. No code calls these functions: the contract of each is a proved
-//! law.
+//! Laws of command-line arguments. The contract of each function is a proved law. No code calls
+//! these functions.
 
 ghost use Rattle.std.specs.Prelude.{◌≡◌, ◌++◌, ℕ, List};
 ghost use Rattle.logos_options.specs.Imports.{AreApart, AreSettled, AreWhole, OptionValue, arguments_of};

@@ -1,4 +1,5 @@
-//! The table of the options of `logos_cli` and `logos_show`, and the reading of their arguments.
+//! Defines the options of `logos_cli` and `logos_show`, and reads the arguments of the two
+//! programs.
 
 #![tactic(auto)]
 

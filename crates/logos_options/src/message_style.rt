@@ -8,7 +8,7 @@ use crate::arguments::{Settings, misuse};
 use crate::options::OptionName;
 use logos_host::{Color, Failure, MessageFormat, color_by_name, format_by_name};
 
-/// The style of messages: their format, and whether they have colors.
+/// The style of messages: their format, and the condition under which they have colors.
 #[derive(Clone, Copy, Debug, PartialEq, Eq)]
 pub struct MessageStyle {
     pub format: MessageFormat,
@@ -38,8 +38,8 @@ pub fn style_given<'w>(settings: &Settings<'w>) -> Result<MessageStyle, Failure<
     }
 }
 
-/// Returns the color setting for the value of `--color`, which is `Auto` for `None`, or `Misuse` if
-/// the value is unknown.
+/// Returns the color setting for `name`, the value of `--color`. Returns `Auto` if `name` is
+/// `None`, and `Misuse` if the value is unknown.
 fn color_given<'w>(name: Option<&'w str>) -> Result<Color, Failure<'w>>
     ensures given { IfOk result (λ color.
         color_given (option_map (λ name. name.now) name.entry) ≡ Some color) }
@@ -56,8 +56,8 @@ fn color_given<'w>(name: Option<&'w str>) -> Result<Color, Failure<'w>>
     }
 }
 
-/// Returns the format for the value of `--message-format`, which is `Human` for `None`, or `Misuse`
-/// if the value is unknown.
+/// Returns the format for `name`, the value of `--message-format`. Returns `Human` if `name` is
+/// `None`, and `Misuse` if the value is unknown.
 fn format_given<'w>(name: Option<&'w str>) -> Result<MessageFormat, Failure<'w>>
     ensures given { IfOk result (λ format.
         format_given (option_map (λ name. name.now) name.entry) ≡ Some format) }

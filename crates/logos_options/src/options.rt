@@ -1,11 +1,12 @@
-//! Defines the table of options: the name of each option, whether it has a value, its effect, and
-//! its lines in the help of each program that takes the option. Used by all modules that read
-//! arguments.
+//! Defines the table of options. A row contains the name and the effect of an option, a flag that
+//! is `true` if the option has a value, and the lines in the help of each program that takes the
+//! option. Used by all modules that read arguments.
 
 ghost use Rattle.std.specs.Prelude.{◌≡◌, ◌<◌, Some, is_some, map};
 ghost use Rattle.logos_options.specs.Imports.{is_named, named_in, number, option_named, role_of, row_value, takes_value, word_of};
 
-/// An option of `logos_cli` or `logos_show`. The rows of the table are in this order.
+/// An option of `logos_cli` or `logos_show`. The rows of the table are in the order of the
+/// variants.
 #[derive(Clone, Copy, Debug, PartialEq, Eq)]
 pub enum OptionName {
     Output,
@@ -33,12 +34,12 @@ pub(crate) const OPTIONS: usize = 17;
 /// The effect of an option.
 #[derive(Clone, Copy, Debug, PartialEq, Eq)]
 pub enum OptionRole {
-    /// The option changes a setting, and is given at most once.
+    /// An option that changes a setting. Such an option is given at most once.
     Setting,
-    /// The option requests an answer about the lexers, as `--examples` does. At most one such
+    /// An option that requests an answer about the lexers, such as `--examples`. At most one such
     /// option is given.
     Question,
-    /// The option requests a text, as `--help` does. No argument after the option is read.
+    /// An option that requests a text, such as `--help`. No argument after the option is read.
     Text,
 }
 
@@ -300,7 +301,8 @@ pub(crate) const ROWS: [OptionRow; OPTIONS] = [
 ];
 
 impl OptionName {
-    /// Returns the option with this name, such as `--output` or `-o`, or `None` if there is none.
+    /// Returns the option with the name or the short name `word`, such as `--output` or `-o`, or
+    /// `None` if there is no such option.
     pub fn by_word(word: &str) -> Option<OptionName>
         ensures { result ≡ option_named word.now }
     {
@@ -338,8 +340,8 @@ impl OptionName {
     }
 }
 
-/// Returns the option of the first of these rows with the name or the short name `word`, or `None`
-/// if there is none.
+/// Returns the option of the first row in `rows` with the name or the short name `word`, or `None`
+/// if there is no such row.
 fn named_in(rows: &[OptionRow], word: &str) -> Option<OptionName>
     ensures { result ≡ named_in (map row_value rows.now) word.now }
 {

@@ -31,8 +31,8 @@ pub fn paths_of<'w>(alloc: Global, arguments: &'w [String]) -> Result<Vec<&'w st
     Ok(paths)
 }
 
-/// Appends to `paths` the path that the argument `word` names, if it is a path. Returns the
-/// progress after the argument, which is `progress` for an invalid argument.
+/// Appends the path that the argument `word` names to `paths` if the argument is a path. Returns
+/// the progress after the argument, or `progress` if the argument is invalid.
 fn push_path<'w>(
     paths: &mut Vec<&'w str>,
     progress: ArgumentProgress,

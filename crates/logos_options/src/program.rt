@@ -28,7 +28,7 @@ impl Program {
         }
     }
 
-    /// Returns the lines for the option of a row in the help of the program, or an empty text if
+    /// Returns the lines in the help of the program for the option in `row`, or an empty text if
     /// the program does not take the option.
     pub(crate) fn help_of(self, row: &OptionRow) -> &'static str {
         let lines = match self {

@@ -1,5 +1,5 @@
-//! Writes the version of a program, and the line that names its commit. Used by `logos_cli` and
-//! `logos_show`.
+//! Writes the version of a program, and the line that names the program's commit. Used by
+//! `logos_cli` and `logos_show`.
 
 ghost use Rattle.std.specs.Prelude.{◌≡◌, ◌-◌, IfErr, drop, length};
 ghost use Rattle.logos_options.specs.Imports.{IsNoMisuse, commit_line, is_commit_line, is_hex_digit, list_all, status_of};
@@ -14,14 +14,14 @@ const PROGRAM: &str = "/proc/self/exe";
 /// The length in bytes of the line that names a commit: `commit: `, forty digits and a line end.
 const LENGTH: usize = 49;
 
-/// Writes to `out` the text `version`, and the line that names the commit of the running program,
-/// if its file ends with such a line. Flushes the writer.
+/// Writes the text `version` to `out`, and then the line that names the commit of the running
+/// program if the program's file ends with such a line. Flushes the writer.
 ///
 /// # Errors
 ///
 /// Returns `Closed` if the reader has closed the output, and `Output` if writing fails for another
-/// reason. Then a part of the text may have been written. Returns `Memory` if memory runs out. Then
-/// nothing was written.
+/// reason. A part of the text may then have been written. Returns `Memory` if memory runs out.
+/// Nothing has then been written.
 pub fn print_version<'w, F: ComparableFiles, O: Write>(
     version: &str,
     files: &F,
@@ -40,9 +40,9 @@ pub fn print_version<'w, F: ComparableFiles, O: Write>(
     }
 }
 
-/// Returns the line at the end of a program that names its commit, with the line end, or no bytes
-/// if the last bytes are not such a line. `tools/release.sh` and `tools/install.sh` append the line
-/// to the programs.
+/// Returns the last line of a program, including the line end, if the line names the program's
+/// commit. Returns no bytes otherwise. `tools/release.sh` and `tools/install.sh` append the line to
+/// the programs.
 fn commit_line(program: &[u8]) -> &[u8]
     ensures { result.now ≡ commit_line program.now }
 {
@@ -53,7 +53,7 @@ fn commit_line(program: &[u8]) -> &[u8]
     &[]
 }
 
-/// Returns the last 49 bytes of a program, or all if there are fewer.
+/// Returns the last 49 bytes of a program, or all bytes if the program has fewer.
 fn last_bytes(program: &[u8]) -> &[u8]
     ensures { result.now ≡ drop (length program.now - 49) program.now }
 {
@@ -63,8 +63,8 @@ fn last_bytes(program: &[u8]) -> &[u8]
     }
 }
 
-/// Returns whether `line` names a commit: it is `commit: `, forty lower-case hexadecimal digits and
-/// LF.
+/// Returns whether `line` names a commit: whether it consists of `commit: `, forty lower-case
+/// hexadecimal digits and LF.
 fn is_commit_line(line: &[u8]) -> bool
     ensures { result ≡ is_commit_line line.now }
 {

@@ -1,5 +1,5 @@
-//! Defines a text to which parts are appended, with optional colors. Used by all crates that append
-//! to reports or answers.
+//! Defines pages: texts with optional colors, to which parts are appended. Used by all crates that
+//! append to reports or answers.
 
 ghost use Rattle.std.specs.Prelude.{◌≡◌, ◌↔◌, [], true, IfOk, IsOk, IsTrue, decimal, encode_utf8, length, string_bytes};
 ghost use Rattle.logos_page.specs.Views.{shown_char, shown_text, Gains, begun, ended, painted, style_text, times};
@@ -8,7 +8,7 @@ use crate::shown::occur_in;
 use std::alloc::{AllocError, Global};
 use std::marker::Model;
 
-/// The style of a part of a text, if there are colors.
+/// The style of a part of a text in a page with colors.
 #[derive(Clone, Copy, Debug, PartialEq, Eq)]
 pub enum Style {
     /// An error: bold and red.
@@ -21,7 +21,7 @@ pub enum Style {
     Strong,
 }
 
-/// A text to which parts are appended, with optional colors. A page records whether memory ran out,
+/// A text with optional colors, to which parts are appended. A page records whether memory ran out,
 /// so only `finish` can fail.
 #[derive(Drop)]
 pub struct Page {
@@ -44,7 +44,7 @@ impl Model for Page {
 }
 
 impl Page {
-    /// Returns an empty page, which has colors if `is_colored` holds.
+    /// Returns an empty page. The page has colors if `is_colored` is `true`.
     pub fn new(alloc: Global, is_colored: bool) -> Page
         ensures { result ≡ record { text = []; is_colored = is_colored; is_whole = true } }
     {
@@ -73,8 +73,8 @@ impl Page {
         }
     }
 
-    /// Appends a character in a form that cannot control a terminal: a tab as four spaces, and each
-    /// other character as `occur_in` returns it.
+    /// Appends a character in a form that cannot control a terminal: a tab as four spaces, and any
+    /// other character as the character that `occur_in` returns.
     pub fn push_shown_char(&mut self, character: char)
         ensures { Gains (shown_char character) self.old self.new }
     {
@@ -116,7 +116,7 @@ impl Page {
         }
     }
 
-    /// Begins a part in a style: appends its escape sequence, if the page has colors.
+    /// Begins a part in a style. Appends the escape sequence of the style if the page has colors.
     pub fn begin(&mut self, style: Style)
         ensures { Gains (begun self.old.is_colored style) self.old self.new }
     {
@@ -125,7 +125,8 @@ impl Page {
         }
     }
 
-    /// Ends a part that has a style: appends the escape sequence for this, if the page has colors.
+    /// Ends a part that has a style. Appends the escape sequence that ends a style if the page has
+    /// colors.
     pub fn end(&mut self)
         ensures { Gains (ended self.old.is_colored) self.old self.new }
     {
@@ -147,7 +148,7 @@ impl Page {
     ///
     /// # Errors
     ///
-    /// Returns `AllocError` if memory ran out at any call.
+    /// Returns `AllocError` if memory ran out in any call.
     pub fn finish(self) -> Result<String, AllocError>
         ensures whole { IsOk result ↔ IsTrue self.is_whole }
         ensures text { IfOk result (λ text. string_bytes text ≡ self.text) }
@@ -160,7 +161,7 @@ impl Page {
     }
 }
 
-/// Returns the escape sequence that begins a part of this style on a terminal.
+/// Returns the escape sequence that begins a part in the style `style` on a terminal.
 fn style_text(style: Style) -> &'static str
     ensures { result.now ≡ style_text style }
 {

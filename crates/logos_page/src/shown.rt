@@ -1,6 +1,6 @@
 //! Defines the form in which characters are shown. No text of a file, of a message or of a name
-//! reaches a terminal unchanged, since some characters move the cursor, change colors or change the
-//! order of the text. Used by `page`, `logos_host`, `logos_report` and `logos_screen`.
+//! reaches a terminal unchanged, because some characters move the cursor, change colors or change
+//! the order of the text. Used by `page`, `logos_host`, `logos_report` and `logos_screen`.
 
 ghost use Rattle.std.specs.Prelude.{◌≡◌, ◌<◌, ◌+◌};
 ghost use Rattle.logos_page.specs.Imports.{is_in_range, is_unsafe, occur_in};
@@ -10,9 +10,9 @@ use unicode_width::UnicodeWidthChar;
 /// The width of a tab, in columns.
 const TAB: usize = 4;
 
-/// Returns the character that represents a character other than a tab on a terminal: the picture of
-/// an ASCII control character, U+FFFD for any other unsafe character, or otherwise the character
-/// itself.
+/// Returns the character that represents `character`, a character other than a tab, on a terminal:
+/// the picture of an ASCII control character, U+FFFD for any other unsafe character, and otherwise
+/// `character` itself.
 pub fn occur_in(character: char) -> char
     ensures { result ≡ occur_in character }
 {
@@ -28,7 +28,8 @@ pub fn occur_in(character: char) -> char
     }
 }
 
-/// Returns the picture of the ASCII control character with the number `code`, which is below 32.
+/// Returns the picture of the ASCII control character with the code point `code`, which is less
+/// than 32.
 fn picture(code: u32) -> char
     requires { code < 32 }
     ensures { result ≡ 0x2400 + code }
@@ -39,8 +40,9 @@ fn picture(code: u32) -> char
     }
 }
 
-/// Returns whether a character other than an ASCII control character is unsafe to show: it controls
-/// a terminal or the order of a text, or takes no column without changing its neighbors.
+/// Returns whether the character with the code point `code`, other than an ASCII control character,
+/// is unsafe to show. Such a character controls a terminal or the order of a text, or takes no
+/// column without changing its neighbors.
 fn is_unsafe(code: u32) -> bool
     ensures { result ≡ is_unsafe code }
 {
@@ -56,7 +58,7 @@ fn is_unsafe(code: u32) -> bool
         | is_in_range(code, 0xE0000, 0xE007F)
 }
 
-/// Returns whether a number is in `first..=last`.
+/// Returns whether `code` is in `first..=last`.
 fn is_in_range(code: u32, first: u32, last: u32) -> bool
     ensures { result ≡ is_in_range first last code }
 {

@@ -17,8 +17,8 @@ use logos_type::TypeExpr;
 use logos_type_params::Generics;
 use std::alloc::Global;
 
-/// The result of analyzing a source: the enum's name and type, its leaves, its options, and all
-/// faults but those of its graph.
+/// The result of analyzing a source: the name, the type and the span of the enum, its leaves, its
+/// options, and all faults except the faults of the graph.
 #[derive(Drop)]
 pub struct Analysis<'s> {
     /// The name of the enum.
@@ -27,16 +27,16 @@ pub struct Analysis<'s> {
     pub span: Span,
     /// The type of the enum: its name, and the generic arguments that follow it.
     pub this: TypeExpr<'s>,
-    /// The leaves: those of the skips first, then those of the variants, in source order.
+    /// The leaves of the skips, followed by the leaves of the variants, both in source order.
     pub leaves: Vec<Leaf<'s>>,
-    /// The options except the skips, which are in `leaves`, and the faults, in the order in which
-    /// they were found.
+    /// The options, and the faults in the order in which they were found. The skips are in `leaves`
+    /// instead.
     pub parser: Parser<'s>,
 }
 
-/// Reports to `parser` each leaf that can match invalid UTF-8, if inputs are UTF-8, and each type
-/// parameter without a type. Returns the generic arguments that follow the enum's name, or `None`
-/// if there are none.
+/// Reports each leaf that can match invalid UTF-8 if inputs are UTF-8, and each type parameter
+/// without a type. Returns the generic arguments that follow the enum's name, or `None` if there
+/// are none.
 fn check_leaves<'s>(
     leaves: &[Leaf<'s>],
     parser: &mut Parser<'s>,
@@ -53,8 +53,8 @@ fn check_leaves<'s>(
     parser.types.generics(&mut parser.errors)
 }
 
-/// Reads the leaves of `item` with `parser`, a new parser, which takes the options and the faults,
-/// and checks the leaves. Returns the leaves and the type of the enum.
+/// Reads and checks the leaves of `item`. `parser` is a new parser, to which the options and the
+/// faults are added. Returns the leaves and the type of the enum.
 fn read_typed<'s>(
     alloc: Global,
     item: &ItemEnum<'_, 's>,
@@ -73,8 +73,8 @@ fn read_typed<'s>(
     Ok((leaves, this))
 }
 
-/// Analyzes `item`, an enum whose tokens have the span `span`. Faults do not stop the analysis: the
-/// result's parser has them.
+/// Analyzes `item`, an enum whose tokens have the span `span`. Faults do not stop the analysis; the
+/// parser in the result contains them.
 ///
 /// # Errors
 ///
@@ -100,7 +100,8 @@ pub fn analyze_enum<'s>(
     }
 }
 
-/// Analyzes the tokens of a source. Returns the refusal with one fault if they are not an enum.
+/// Analyzes the tokens of a source. Returns the refusal with one fault if the tokens are not an
+/// enum.
 fn analyze_tokens<'s>(alloc: Global, stream: &TokenStream<'s>) -> Result<Analysis<'s>, Refusal>
     ensures ok { IfOk result (λ analysis.
         IsTokenAnalysis (stream_tokens stream.now) (analysis_view analysis)) }
@@ -117,8 +118,9 @@ fn analyze_tokens<'s>(alloc: Global, stream: &TokenStream<'s>) -> Result<Analysi
     }
 }
 
-/// Analyzes a source: reads its enum, and finds its leaves, its options, and all faults but those
-/// of its graph. These faults do not stop the analysis: the result's parser has them.
+/// Analyzes a source: reads its enum, and finds its leaves, its options, and all faults except the
+/// faults of the graph. These faults do not stop the analysis; the parser in the result contains
+/// them.
 ///
 /// # Errors
 ///

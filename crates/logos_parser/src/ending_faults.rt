@@ -11,8 +11,8 @@ use logos_token::token::{LexicalKind, Span, TokenError};
 use logos_type_params::reports::type_nesting_text;
 use std::alloc::Global;
 
-/// Returns the refusal with one fault, which has `code`, `message` and `span`, or `Memory` if
-/// memory runs out.
+/// Returns the refusal with one fault that has `code`, `message` and `span`, or `Memory` if memory
+/// runs out.
 fn refused(alloc: Global, code: FaultCode, message: &str, span: Span) -> Refusal
     ensures { Refuses (λ faults. faults ≡ only (fault code message.now span)) result }
 {
@@ -23,7 +23,7 @@ fn refused(alloc: Global, code: FaultCode, message: &str, span: Span) -> Refusal
     }
 }
 
-/// Returns the message of a lexical fault of `kind`.
+/// Returns the message of a lexical fault of the kind `kind`.
 fn lexical_text(kind: LexicalKind) -> &'static str
     ensures { result.now ≡ lexical_text kind }
 {
@@ -35,8 +35,8 @@ fn lexical_text(kind: LexicalKind) -> &'static str
     }
 }
 
-/// Returns the refusal of a source that cannot be split into tokens, with the lexical fault of
-/// `kind` at `span`, or `Memory` if memory runs out.
+/// Returns the refusal of a source that cannot be split into tokens, with a lexical fault of the
+/// kind `kind` at `span`, or `Memory` if memory runs out.
 fn unlexed(alloc: Global, kind: LexicalKind, span: Span) -> Refusal
     ensures { Refuses (λ faults. faults ≡ only (lexical_fault kind span)) result }
 {

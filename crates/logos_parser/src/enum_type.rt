@@ -16,8 +16,8 @@ fn push_part<'s>(parts: &mut Vec<TypePart<'s>>, part: TypePart<'s>) -> Result<()
     Ok(())
 }
 
-/// Appends `part`, an argument, to the parts of a type, with a comma before it unless it is the
-/// first argument.
+/// Appends the argument `part` to the parts of a type. A comma precedes the argument unless
+/// `is_first` is `true`.
 fn push_argument<'s>(
     parts: &mut Vec<TypePart<'s>>,
     is_first: bool,
@@ -33,8 +33,8 @@ fn push_argument<'s>(
     Ok(())
 }
 
-/// Appends `types`, as arguments, to the parts of a type, with a comma before each unless it is the
-/// first argument.
+/// Appends the arguments `types` to the parts of a type. A comma precedes each argument, except for
+/// the first one if `is_first` is `true`.
 fn push_arguments<'s>(
     parts: &mut Vec<TypePart<'s>>,
     is_first: bool,
@@ -83,7 +83,7 @@ fn bracketed<'s>(
     Ok(TypeExpr { part })
 }
 
-/// Returns the type of the enum `name`: its name, and the generic arguments that follow it, if
+/// Returns the type of the enum `name`: its name and the generic arguments that follow the name, if
 /// there are any.
 ///
 /// # Errors

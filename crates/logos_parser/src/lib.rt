@@ -1,5 +1,6 @@
-//! Analyzes the enum of a source: its leaves, its options, and all its faults but those of its
-//! graph. Re-exports the modules of the crates below. `logos_codegen` calls `analyze`.
+//! Analyzes the enum of a source: finds its leaves, its options, and all its faults except the
+//! faults of its graph. Re-exports the modules of the crates below. `logos_codegen` calls
+//! `analyze`.
 
 #![tactic(auto)]
 

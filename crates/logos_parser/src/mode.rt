@@ -38,7 +38,7 @@ fn report_if_not_utf8(leaf: &Leaf<'_>, errors: &mut Errors) -> Result<(), Memory
     report_utf8_fault(leaf, errors)
 }
 
-/// Reports each leaf whose pattern can match invalid UTF-8 if `utf8_mode` is `true`, and none
+/// Reports each leaf whose pattern can match invalid UTF-8 if `utf8_mode` is `true`, and nothing
 /// otherwise.
 pub(crate) fn report_not_utf8(
     utf8_mode: bool,

@@ -1,4 +1,4 @@
-//! The refusal of a source. Each function that reads a whole source returns it as its error.
+//! The refusal of a source. Each function that reads a whole source returns a refusal as its error.
 
 ghost use Rattle.std.specs.Prelude.{◌≡◌};
 ghost use Rattle.logos_parser.specs.Views.{Memory as OutOfMemory};
@@ -6,10 +6,10 @@ ghost use Rattle.logos_parser.specs.Views.{Memory as OutOfMemory};
 use logos_token::error::{Errors, Memory};
 use std::alloc::{AllocError, AllocFailed};
 
-/// The reason that a source has no lexer.
+/// The reason why a source has no lexer.
 #[derive(Debug, Drop)]
 pub enum Refusal {
-    /// The faults of the source, which can be limits that it exceeds.
+    /// The faults of the source, including exceeded limits.
     Errors(Errors),
     /// Memory ran out.
     Memory,

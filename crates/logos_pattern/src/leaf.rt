@@ -1,4 +1,4 @@
-//! The leaves of a lexer: each is a pattern with its priority, its kind and its callback.
+//! Defines the leaves of a lexer. A leaf is a pattern with its priority, its kind and its callback.
 //! `logos_leaf` makes leaves, and graphs and codes store them.
 
 ghost use Rattle.std.specs.Prelude.{◌≡◌, Some, false};
@@ -12,18 +12,19 @@ pub use logos_type::TypeExpr;
 use std::alloc::AllocError;
 use std::fmt;
 
-/// The use of the matches of a leaf: the variant that the lexer returns for a match, or a skip.
+/// The use of a leaf's matches: the variant that the lexer returns for a match, or a skip.
 #[derive(Drop)]
 pub enum VariantKind<'s> {
-    /// A variant without a field, by its name.
+    /// A variant without a field. The identifier is the name of the variant.
     Unit(Ident<'s>),
-    /// A variant with a field, by its name and the type of the field.
+    /// A variant with one field. The identifier is the name of the variant, and the type is the
+    /// type of the field.
     Value(Ident<'s>, TypeExpr<'s>),
-    /// No variant: the lexer skips the match.
+    /// No variant, because the lexer skips the match.
     Skip,
 }
 
-/// A function that the lexer calls on a match.
+/// A function that the lexer calls for each match.
 #[derive(Drop)]
 pub enum Callback<'s> {
     /// The tokens that name a function, such as a path.
@@ -32,7 +33,7 @@ pub enum Callback<'s> {
     Inline(InlineCallback<'s>),
 }
 
-/// A callback that is written as a closure, `|lex| body`.
+/// A callback in the form of a closure, `|lex| body`.
 #[derive(Drop)]
 pub struct InlineCallback<'s> {
     /// The name of the closure's parameter.
@@ -57,7 +58,7 @@ impl<'s> VariantKind<'s> {
 }
 
 impl<'s> Callback<'s> {
-    /// Returns the span of the callback in the source, in bytes. The span of a label reaches from
+    /// Returns the span of the callback in the source, in bytes. The span of a label extends from
     /// its first token to its last, and is `0..0` if the label has no token.
     pub fn span(&self) -> Span
         ensures { result ≡ callback_span self.now }
@@ -115,12 +116,12 @@ impl Clone for InlineCallback<'_> {
     }
 }
 
-/// The options of a leaf's definition, besides its priority and its callback.
+/// The options of a leaf's definition other than its priority and its callback.
 #[derive(Clone, Copy, Debug, PartialEq, Eq)]
 pub struct LeafOptions {
-    /// Whether letters match in either case: `ignore(case)`.
+    /// Whether letters match in either case, as set by `ignore(case)`.
     pub ignores_case: bool,
-    /// Whether a greedy repetition of a dot is allowed: `allow_greedy = true`.
+    /// Whether a greedy repetition of a dot is allowed, as set by `allow_greedy = true`.
     pub allows_greedy: bool,
 }
 
@@ -131,19 +132,19 @@ pub struct Leaf<'s> {
     pub pattern: Pattern<'s>,
     /// The span of the pattern's literal in the source, in bytes.
     pub span: Span,
-    /// The number that decides between leaves with a match of equal span: the highest wins.
+    /// The number that decides between leaves whose matches have equal spans: the highest wins.
     pub priority: usize,
     /// The variant that the lexer returns for a match, or a skip.
     pub kind: VariantKind<'s>,
-    /// The function that the lexer calls on a match, if there is one.
+    /// The function that the lexer calls for each match, if there is one.
     pub callback: Option<Callback<'s>>,
     /// The options of the leaf's definition.
     pub options: LeafOptions,
 }
 
 impl<'s> Leaf<'s> {
-    /// Returns a leaf for `pattern` with its literal at `span`. The leaf skips its matches, and has
-    /// priority 0, no callback and no options.
+    /// Returns a leaf for `pattern`, whose literal is at `span`. The leaf skips its matches, and
+    /// has priority 0, no callback and no options.
     pub fn new(span: Span, pattern: Pattern<'s>) -> Leaf<'s>
         ensures { result ≡ record {
           pattern = pattern.entry;
@@ -167,7 +168,7 @@ impl<'s> Leaf<'s> {
         }
     }
 
-    /// Returns the leaf with `priority` as its priority.
+    /// Returns this leaf with the priority `priority`.
     pub fn priority(mut self, priority: usize) -> Leaf<'s>
         ensures { result ≡ record self.entry { priority = priority } }
     {
@@ -175,7 +176,7 @@ impl<'s> Leaf<'s> {
         self
     }
 
-    /// Returns the leaf with `kind` as its kind.
+    /// Returns this leaf with the kind `kind`.
     pub fn variant_kind(mut self, kind: VariantKind<'s>) -> Leaf<'s>
         ensures { result ≡ record self.entry { kind = kind.entry } }
     {
@@ -183,7 +184,8 @@ impl<'s> Leaf<'s> {
         self
     }
 
-    /// Returns the leaf with `callback` as its callback, or without a callback for `None`.
+    /// Returns this leaf with the callback `callback`, or without a callback if `callback` is
+    /// `None`.
     pub fn callback(mut self, callback: Option<Callback<'s>>) -> Leaf<'s>
         ensures { result ≡ record self.entry { callback = callback.entry } }
     {
@@ -191,7 +193,7 @@ impl<'s> Leaf<'s> {
         self
     }
 
-    /// Returns the leaf with `options` as its options.
+    /// Returns this leaf with the options `options`.
     pub fn options(mut self, options: LeafOptions) -> Leaf<'s>
         ensures { result ≡ record self.entry { options = options } }
     {

@@ -1,5 +1,5 @@
-//! The patterns and the leaves of a lexer. `logos_leaf` makes both from definitions, and the later
-//! stages read both.
+//! Defines the patterns and the leaves of a lexer. `logos_leaf` makes both from definitions, and
+//! the later stages read both.
 
 #![tactic(auto)]
 

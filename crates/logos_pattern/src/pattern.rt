@@ -1,4 +1,4 @@
-//! Patterns, read from the texts of literals. `logos_leaf` makes a pattern for each leaf and for
+//! Reads patterns from the texts of literals. `logos_leaf` makes a pattern for each leaf and for
 //! each subpattern.
 
 ghost use Rattle.std.specs.Prelude.{◌≡◌, ◌≤◌, ◌++◌, ℕ, chars, IfOk, IfErr, IsTrue, Some};
@@ -24,7 +24,7 @@ use std::fmt;
 /// The greatest depth to which groups, brackets and operators can be nested in a pattern.
 pub const MAX_NESTING: usize = 250;
 
-/// A pattern: its tree, and the literal from which it was read.
+/// A pattern, consisting of a tree and the literal from which the tree was read.
 #[derive(Drop)]
 pub struct Pattern<'s> {
     is_literal: bool,
@@ -33,16 +33,18 @@ pub struct Pattern<'s> {
 }
 
 impl<'s> Pattern<'s> {
-    /// Reads the pattern that `regex` spells. At the start of `regex` the flag `u` is on if
-    /// `unicode` is `true`, the flag `i` is on if `ignore_case` is `true`, and all other flags are
-    /// off. The pattern stores `source`, the text of its literal in the source, and `is_literal`,
-    /// which is `true` for the literal of a `token`.
+    /// Reads the pattern that `regex` spells.
+    ///
+    /// At the start of `regex`, the flag `u` is on if `unicode` is `true`, the flag `i` is on if
+    /// `ignore_case` is `true`, and all other flags are off. The pattern stores `source`, the text
+    /// of its literal in the source, and `is_literal`, which is `true` for the literal of a
+    /// `token`.
     ///
     /// # Errors
     ///
-    /// Returns `Syntax` if `regex` breaks the grammar, with the kind of the fault and its byte
-    /// offset in `regex`; `LimitPatternNesting` if groups, brackets and operators are nested more
-    /// than 250 deep; and `Memory` if memory runs out.
+    /// Returns `Syntax` if `regex` violates the grammar. The error contains the kind of the fault
+    /// and its byte offset in `regex`. Returns `LimitPatternNesting` if groups, brackets and
+    /// operators are nested more than 250 deep. Returns `Memory` if memory runs out.
     pub fn compile(
         alloc: Global,
         is_literal: bool,
@@ -88,7 +90,8 @@ impl<'s> Pattern<'s> {
         })
     }
 
-    /// Returns the pattern of a `token`, which matches exactly the bytes of the literal's value.
+    /// Returns the pattern of a `token`. The pattern matches exactly the bytes of the literal's
+    /// value.
     ///
     /// # Errors
     ///
@@ -108,25 +111,26 @@ impl<'s> Pattern<'s> {
         })
     }
 
-    /// Returns the default priority of a `regex` or `skip`, computed from its tree, or `None` if
-    /// that priority does not fit `usize`. The default priority of a `token` is `token_priority`.
+    /// Returns the default priority of a `regex` or `skip`, computed from the pattern's tree.
+    /// Returns `None` if the priority does not fit `usize`. The function `token_priority` returns
+    /// the default priority of a `token`.
     pub fn priority(&self) -> Option<usize>
         ensures { result ≡ fitted (value (pattern_tree self.now)) }
     {
         measures::priority(&self.hir)
     }
 
-    /// Returns whether a greedy repetition without an upper bound repeats a dot: a class of all
-    /// characters or of all bytes, of all but LF, or of all but CR and LF. Searches captures,
-    /// concatenations and alternations, but not the body of a repetition.
+    /// Returns whether the pattern contains a greedy repetition of a dot without an upper bound. A
+    /// dot is a class of all characters or of all bytes, possibly except LF or except both CR and
+    /// LF. Searches captures, concatenations and alternations, but not the bodies of repetitions.
     pub fn check_for_greedy_all(&self) -> bool
         ensures { result ≡ has_greedy_dot (pattern_tree self.now) }
     {
         measures::check_for_greedy_all(&self.hir)
     }
 
-    /// Returns whether each literal of the tree is UTF-8, and each class of bytes contains only
-    /// ASCII.
+    /// Returns whether each literal of the tree is valid UTF-8, and each class of bytes contains
+    /// only ASCII bytes.
     pub fn is_utf8(&self) -> bool
         ensures { result ≡ is_text (pattern_tree self.now) }
     {
@@ -165,7 +169,7 @@ impl fmt::Display for Pattern<'_> {
     }
 }
 
-/// Returns the tree that matches exactly `bytes`: `Hir::Empty` if there are none.
+/// Returns the tree that matches exactly `bytes`. Returns `Hir::Empty` if `bytes` is empty.
 fn literal_hir(alloc: Global, bytes: &[u8]) -> Result<Hir, AllocError>
     ensures { IfOk result (λ hir. tree_of hir ≡ literal_tree bytes.now) }
 {

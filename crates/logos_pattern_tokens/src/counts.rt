@@ -1,5 +1,5 @@
-//! Reads the numbers of a pattern, and operators with counts. The readers of tokens call it after
-//! an atom and in escapes.
+//! Reads numbers, and repetition operators with counts, from the text of a pattern. The readers of
+//! tokens call this module after an atom and in escapes.
 
 ghost use Rattle.std.specs.Prelude.{◌≡◌, ◌==◌, option_map, position};
 ghost use Rattle.logos_pattern_tokens.specs.Views.{Yields, token_view, is_digit, hex_digit, hex_from, scalar_of, cut_at, number_from, fits, number_at, lazy_at, count_end, order_at, most_at, bounds_at, count_at};
@@ -7,21 +7,21 @@ ghost use Rattle.logos_pattern_tokens.specs.Views.{Yields, token_view, is_digit,
 use crate::error::{Fault, Kind};
 use crate::token::{Operator, Token};
 
-/// Returns the value of a hexadecimal digit, or `None` if `c` is not one.
+/// Returns the value of the hexadecimal digit `c`, or `None` if `c` is not a hexadecimal digit.
 pub fn hex_digit(c: char) -> Option<u32>
     ensures { result ≡ hex_digit c }
 {
     c.to_digit(16)
 }
 
-/// Returns the Unicode scalar value with the number that the hexadecimal digits spell. No digits
-/// spell 0.
+/// Returns the Unicode scalar value whose number the hexadecimal digits spell. Returns U+0000 if
+/// `digits` is empty.
 ///
 /// # Errors
 ///
-/// Returns `HexSyntax` or `HexNotScalar` for the first fault from the left: `HexSyntax` at a
-/// character that is not a hexadecimal digit, and `HexNotScalar` where the number exceeds 10FFFF.
-/// Also returns `HexNotScalar` if the number is that of a surrogate.
+/// Returns the first fault from the left: `HexSyntax` at a character that is not a hexadecimal
+/// digit, or `HexNotScalar` at a digit that makes the number exceed 10FFFF. Also returns
+/// `HexNotScalar` if the number denotes a surrogate.
 pub fn scalar_of(digits: &[char]) -> Result<char, Fault>
     ensures { Yields (λ n. n) result (scalar_of digits.now) }
 {
@@ -41,8 +41,7 @@ pub fn scalar_of(digits: &[char]) -> Result<char, Fault>
     }
 }
 
-/// Splits the text at the first `end`: returns the text before it and the text after it, or `None`
-/// if the text has no `end`.
+/// Returns the text before and the text after the first `end`, or `None` if the text has no `end`.
 pub fn cut_at(end: char, text: &[char]) -> Option<(&[char], &[char])>
     ensures { option_map (λ x. (x.0.now, x.1.now)) result ≡ cut_at end text.now }
 {
@@ -66,8 +65,8 @@ fn is_digit(c: char) -> bool
     '0' <= c && c <= '9'
 }
 
-/// Reads the digits at the front as a continuation of the number `start`. Returns the number and
-/// the rest of the text, or `None` if the number is 2^32 or more.
+/// Reads the digits at the front of the text as a continuation of the number `start`. Returns the
+/// number and the rest of the text, or `None` if the number is 2^32 or more.
 fn number_from(start: u32, text: &[char]) -> Option<(u32, &[char])>
     ensures { option_map (λ x. (x.0, x.1.now)) result ≡ fits (number_from start text.now) }
 {
@@ -91,7 +90,7 @@ fn number_from(start: u32, text: &[char]) -> Option<(u32, &[char])>
     }
 }
 
-/// Reads the number at the front, and returns it with the rest of the text.
+/// Reads the number at the front of the text. Returns the number and the rest of the text.
 ///
 /// # Errors
 ///
@@ -110,8 +109,8 @@ fn number_at(text: &[char]) -> Result<(u32, &[char]), Fault>
     }
 }
 
-/// Returns the operator with the counts `least` and `most`, and the rest of the text. The operator
-/// is lazy if `text`, the text after it, begins with `?`.
+/// Returns the operator with the counts `least` and `most`, and the rest of the text. `text` is the
+/// text after the operator. The operator is lazy if `text` begins with `?`.
 #[tactic(auto, unfolding(crate::specs::Token::lazy_at))]
 pub fn lazy_at<'t>(least: u32, most: Option<u32>, text: &'t [char]) -> (Token<'t>, &'t [char])
     ensures token { token_view result.0 ≡ (lazy_at least most text.now).0 }
@@ -137,7 +136,7 @@ pub fn lazy_at<'t>(least: u32, most: Option<u32>, text: &'t [char]) -> (Token<'t
     }
 }
 
-/// Reads the `}` after the counts, and the `?` that can follow it. Returns the operator with these
+/// Reads the `}` after the counts, and the `?` if one follows. Returns the operator with these
 /// counts and the rest of the text.
 ///
 /// # Errors
@@ -162,8 +161,8 @@ fn count_end<'t>(
 ///
 /// # Errors
 ///
-/// Returns `Unclosed` if the text is empty, the errors of `number_at` and `count_end`, and
-/// `CountOrder` if the second count is less than the first.
+/// Returns `Unclosed` if the text is empty, `CountOrder` if the second count is less than `least`,
+/// and the errors of `number_at` and `count_end`.
 #[tactic(auto, unfolding(crate::specs::Token::most_at, crate::specs::Token::order_at))]
 fn most_at(least: u32, text: &[char]) -> Result<(Token<'_>, &[char]), Fault>
     ensures { Yields (λ x. (token_view x.0, x.1.now)) result (most_at least text.now) }
@@ -197,8 +196,8 @@ fn bounds_at(least: u32, text: &[char]) -> Result<(Token<'_>, &[char]), Fault>
     }
 }
 
-/// Reads an operator with counts from the text after its `{`. Returns the operator's token and the
-/// rest of the text.
+/// Reads a repetition operator with counts from the text after its `{`. Returns the operator's
+/// token and the rest of the text.
 ///
 /// # Errors
 ///

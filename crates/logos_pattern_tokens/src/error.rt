@@ -1,5 +1,5 @@
-//! The errors of reading a pattern, and the reasons why its readers stop. All readers of this crate
-//! and of `logos_syntax` return them.
+//! The errors that occur while a pattern is read. All readers of this crate and of `logos_syntax`
+//! return them.
 
 ghost use Rattle.std.specs.Prelude.{◌≡◌};
 ghost use Rattle.logos_pattern_tokens.specs.declared.error.Fault.TheVariants as faults;
@@ -15,11 +15,11 @@ pub enum Kind {
     Unclosed,
     /// A closing parenthesis where no group is open.
     Unopened,
-    /// An operator with nothing before it that it could repeat.
+    /// A repetition operator that has nothing to repeat.
     NothingToRepeat,
     /// Braces that do not contain counts.
     CountSyntax,
-    /// A least count that is greater than the greatest count.
+    /// A minimum count that is greater than the maximum count.
     CountOrder,
     /// A count of 2^32 or more.
     CountTooLarge,
@@ -27,49 +27,49 @@ pub enum Kind {
     FlagUnsupported,
     /// Text after `(?` that is not a flag setting.
     FlagSyntax,
-    /// Look-around, or a group whose name is malformed or occurs earlier.
+    /// A look-around group such as `(?=..)`, or a group with a malformed or repeated name.
     GroupSyntax,
-    /// A backslash before a character that it cannot escape.
+    /// A backslash before a character that cannot be escaped.
     EscapeUnknown,
-    /// An escape by number without digits, with too few digits, or with other characters.
+    /// A numeric escape without digits, with too few digits, or with characters that are not
+    /// digits.
     HexSyntax,
-    /// An escape with a number that is not the number of a Unicode scalar value.
+    /// A numeric escape whose number is not a Unicode scalar value.
     HexNotScalar,
-    /// A range that begins after its end, or one of whose ends is a class.
+    /// A range whose start is greater than its end, or a range with a class as its start or end.
     ClassRange,
-    /// The name of a property that no set of characters has.
+    /// An unknown property name.
     UnknownProperty,
-    /// A property with a value, or a property that `^` negates.
+    /// A property with a value, or a property negated by `^`.
     PropertyForm,
-    /// A property, or a character outside ASCII in a bracket, in a pattern that matches bytes.
+    /// A property, or a non-ASCII character in a bracket, in a pattern that matches bytes.
     NotInBytes,
     /// A word boundary in a pattern that matches characters.
     UnicodeWordBoundary,
-    /// A word boundary that is written as `\b{..}`, `\<` or `\>`.
+    /// A word boundary written as `\b{..}`, `\<` or `\>`.
     WordBoundaryForm,
 }
 
-/// The reason why a text is not read as a pattern.
+/// The reason why a text cannot be read as a pattern.
 #[derive(Debug, Drop)]
 pub enum PatternError {
-    /// A fault of the grammar. `at` is the byte offset of the fault in the text of the pattern.
+    /// A syntax error. `at` is the byte offset of the fault in the text of the pattern.
     Syntax { kind: Kind, at: usize },
-    /// Groups, brackets and operators that are nested too deeply.
+    /// Groups, brackets and operators are nested too deeply.
     LimitPatternNesting,
     /// Memory ran out.
     Memory,
 }
 
-/// The reason why no token can be read at the front of a text: a fault of this kind, or memory ran
-/// out.
+/// The reason why no token can be read at the front of a text: a fault, or a lack of memory.
 #[derive(Drop)]
 pub enum Fault {
     Syntax(Kind),
     Memory,
 }
 
-/// The reason why the reading of a pattern stops. `left` is the number of characters from the fault
-/// to the end of the text.
+/// The reason why the reading of a pattern stops. `left` is the number of characters from the point
+/// of the fault to the end of the text.
 #[derive(Drop)]
 pub enum Stop {
     Syntax { kind: Kind, left: usize },

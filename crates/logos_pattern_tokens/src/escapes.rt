@@ -1,4 +1,4 @@
-//! Reads the text after a backslash. Both readers of tokens call it at a backslash.
+//! Reads the text after a backslash. Both token readers call `escape_at` at a backslash.
 
 ghost use Rattle.std.specs.Prelude.{◌≡◌, MatchResult};
 ghost use Rattle.logos_pattern_tokens.specs.Views.{Yields, is_among, is_escapable, single_of, begins, is_form, plain_property, property_of, property_at, braces_at, fixed_at, byte_at, hex_at, boundary_at, single_at, escape_at};
@@ -10,16 +10,16 @@ use logos_hir::property::{PerlKind, property_named};
 use std::alloc::Global;
 use unicode::sets::Set;
 
-/// Returns whether an escape of the character is the character itself: an ASCII character that is
-/// not a letter, a digit, `<` or `>`.
+/// Returns whether a backslash before the character denotes the character itself. This holds for
+/// each ASCII character except letters, digits, `<` and `>`.
 fn is_escapable(c: char) -> bool
     ensures { result ≡ is_escapable c }
 {
     c.is_ascii() && !(c.is_ascii_alphanumeric() || c == '<' || c == '>')
 }
 
-/// Returns the atom of the escape of this one character: the character itself, another character, a
-/// class or a look-around assertion. Returns `None` if there is no such escape.
+/// Returns the atom of the escape that consists of a backslash and `c`: a character, a class or a
+/// look-around assertion. Returns `None` if there is no such escape.
 fn single_of(c: char) -> Option<Atom>
     ensures { result ≡ single_of c }
 {
@@ -53,7 +53,8 @@ fn contains(name: &[char], c: char) -> bool
     name.contains(&c)
 }
 
-/// Returns whether the name of a property has a value (contains `=` or `:`), or is negated by `^`.
+/// Returns whether the name of a property contains `=` or `:`, or begins with `^`. Such a name has
+/// a value or is negated.
 fn is_form(name: &[char]) -> bool
     ensures { result ≡ is_form name.now }
 {
@@ -97,13 +98,13 @@ fn property_of<'t>(
     Ok((Atom::Property(set, negated), rest))
 }
 
-/// Reads the name of a property, in braces or of one character. Returns the atom of the property
-/// and the rest of the text.
+/// Reads the name of a property: one character, or a name in braces. Returns the atom of the
+/// property and the rest of the text.
 ///
 /// # Errors
 ///
 /// Returns `UnknownProperty` if the text is empty or its one character names no property,
-/// `Unclosed` if no brace closes, and otherwise the errors of `plain_property`.
+/// `Unclosed` if the brace is not closed, and otherwise the errors of `plain_property`.
 #[tactic(auto, unfolding(crate::specs::Escapes::property_at))]
 fn property_at(alloc: Global, negated: bool, text: &[char]) -> Result<(Atom, &[char]), Fault>
     ensures { Yields (λ x. (x.0, x.1.now)) result (property_at negated text.now) }
@@ -129,9 +130,9 @@ fn property_at(alloc: Global, negated: bool, text: &[char]) -> Result<(Atom, &[c
 ///
 /// # Errors
 ///
-/// Returns `Unclosed` if no `}` follows and the text has only digits, `HexSyntax` if there is no
-/// digit or there is another character, and `HexNotScalar` if the number is not that of a scalar
-/// value.
+/// Returns `Unclosed` if the text has no `}` and consists of digits only, and `HexSyntax` if there
+/// are no digits or other characters are among them. Returns `HexNotScalar` if the number is not a
+/// Unicode scalar value.
 #[tactic(auto, unfolding(crate::specs::Escapes::braces_at))]
 fn braces_at(text: &[char]) -> Result<(Atom, &[char]), Fault>
     ensures { Yields (λ x. (x.0, x.1.now)) result (braces_at text.now) }
@@ -146,8 +147,8 @@ fn braces_at(text: &[char]) -> Result<(Atom, &[char]), Fault>
     Ok((Atom::Character(c), rest))
 }
 
-/// Returns the fault of the text after a `{` that no `}` closes: `Unclosed` if it has only
-/// hexadecimal digits, and `HexSyntax` otherwise.
+/// Returns the fault of the text after a `{` that is not closed by a `}`: `Unclosed` if the text
+/// consists of hexadecimal digits only, and `HexSyntax` otherwise.
 fn digits_fault(digits: &[char]) -> Kind {
     if digits.iter().all(|c| hex_digit(*c).is_some()) {
         Kind::Unclosed
@@ -156,13 +157,13 @@ fn digits_fault(digits: &[char]) -> Kind {
     }
 }
 
-/// Reads `width` hexadecimal digits. Returns the atom of the character with their number, and the
-/// rest of the text.
+/// Reads `width` hexadecimal digits. Returns the atom of the character whose number the digits
+/// spell, and the rest of the text.
 ///
 /// # Errors
 ///
-/// Returns `HexSyntax` if there are fewer digits, and `HexNotScalar` if the number is not the
-/// number of a scalar value.
+/// Returns `HexSyntax` if there are fewer digits, and `HexNotScalar` if the number is not a Unicode
+/// scalar value.
 #[tactic(auto, unfolding(crate::specs::Escapes::fixed_at))]
 fn fixed_at(width: usize, text: &[char]) -> Result<(Atom, &[char]), Fault>
     ensures { Yields (λ x. (x.0, x.1.now)) result (fixed_at width text.now) }
@@ -175,7 +176,8 @@ fn fixed_at(width: usize, text: &[char]) -> Result<(Atom, &[char]), Fault>
     Ok((Atom::Character(c), rest))
 }
 
-/// Reads two hexadecimal digits as the value of a byte. Returns its atom and the rest of the text.
+/// Reads two hexadecimal digits as the value of a byte. Returns the atom of the byte and the rest
+/// of the text.
 ///
 /// # Errors
 ///
@@ -198,7 +200,7 @@ fn byte_at(text: &[char]) -> Result<(Atom, &[char]), Fault>
 ///
 /// # Errors
 ///
-/// Returns `HexSyntax` if the text is empty; otherwise the errors of `braces_at`, `byte_at` or
+/// Returns `HexSyntax` if the text is empty, and otherwise the errors of `braces_at`, `byte_at` or
 /// `fixed_at`.
 #[tactic(auto, unfolding(crate::specs::Escapes::hex_at))]
 fn hex_at(letter: char, text: &[char]) -> Result<(Atom, &[char]), Fault>
@@ -215,12 +217,12 @@ fn hex_at(letter: char, text: &[char]) -> Result<(Atom, &[char]), Fault>
     }
 }
 
-/// Reads the text after `\b`. Returns the atom of a word boundary and the whole text, since `\b`
+/// Reads the text after `\b`. Returns the atom of a word boundary and the whole text, because `\b`
 /// alone is a word boundary.
 ///
 /// # Errors
 ///
-/// Returns `WordBoundaryForm` if a brace follows.
+/// Returns `WordBoundaryForm` if the text begins with `{`.
 #[tactic(auto, unfolding(crate::specs::Escapes::boundary_at))]
 fn boundary_at(text: &[char]) -> Result<(Atom, &[char]), Fault>
     ensures { Yields (λ x. (x.0, x.1.now)) result (boundary_at text.now) }
@@ -231,7 +233,7 @@ fn boundary_at(text: &[char]) -> Result<(Atom, &[char]), Fault>
     }
 }
 
-/// Returns the fault of a backslash before `c`, a character that it cannot escape.
+/// Returns the fault of a backslash before the character `c`, which cannot be escaped.
 fn no_escape(c: char) -> Kind {
     match c {
         '<' | '>' => Kind::WordBoundaryForm,
@@ -243,7 +245,8 @@ fn no_escape(c: char) -> Kind {
 ///
 /// # Errors
 ///
-/// Returns `WordBoundaryForm` for `<` and `>`, and `EscapeUnknown` if there is no such escape.
+/// Returns `WordBoundaryForm` if `c` is `<` or `>`, and `EscapeUnknown` if `c` is another character
+/// that cannot be escaped.
 #[tactic(auto, unfolding(crate::specs::Escapes::single_at))]
 fn single_at(c: char, rest: &[char]) -> Result<(Atom, &[char]), Fault>
     ensures { Yields (λ x. (x.0, x.1.now)) result (single_at c rest.now) }
@@ -259,7 +262,7 @@ fn single_at(c: char, rest: &[char]) -> Result<(Atom, &[char]), Fault>
 /// # Errors
 ///
 /// Returns `EscapeUnknown` if the text is empty or begins with a character that cannot be escaped,
-/// otherwise the fault of the escape, and `Memory` if memory runs out.
+/// the fault of the escape if it is malformed, and `Memory` if memory runs out.
 #[tactic(auto, unfolding(crate::specs::Escapes::escape_at))]
 pub fn escape_at(alloc: Global, text: &[char]) -> Result<(Atom, &[char]), Fault>
     ensures { Yields (λ x. (x.0, x.1.now)) result (escape_at text.now) }

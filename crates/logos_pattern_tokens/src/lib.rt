@@ -1,4 +1,4 @@
-//! The tokens of a pattern's text, and the readers that take one token from the front.
+//! The tokens of a pattern's text, and the readers that read one token from the front of the text.
 //! `logos_syntax` calls the readers.
 
 #![tactic(auto)]

@@ -1,4 +1,4 @@
-//! Reads the text after an opening parenthesis. The reader of tokens calls it at `(`.
+//! Reads the text after an opening parenthesis. The reader of tokens calls `group_at` at each `(`.
 
 ghost use Rattle.std.specs.Prelude.{◌≡◌};
 ghost use Rattle.logos_pattern_tokens.specs.Views.{no_change, set_once, with_letter, Yields, token_view, sets, opens, plain, is_name_start, is_name_part, are_name_parts, is_name, name_at, python_at, dash, next_letter, setting_end, letters_from, no_letters, option_at, group_at};
@@ -8,14 +8,14 @@ use crate::error::{Fault, Kind};
 use crate::token::{Change, GroupOpening, Token};
 use unicode::properties::{GeneralCategory, GeneralCategoryGroup, is_alphabetic};
 
-/// Returns whether a group's name can start with the character.
+/// Returns whether a group's name can begin with the character.
 fn is_name_start(c: char) -> bool
     ensures { result ≡ is_name_start c }
 {
     c == '_' || is_alphabetic(c)
 }
 
-/// Returns whether a group's name can have the character after its first one.
+/// Returns whether a group's name can contain the character after its first character.
 fn is_name_part(c: char) -> bool
     ensures { result ≡ is_name_part c }
 {
@@ -24,7 +24,7 @@ fn is_name_part(c: char) -> bool
         || matches!(c, '.' | '[' | ']')
 }
 
-/// Returns whether a group's name can have each of the characters after its first one.
+/// Returns whether a group's name can contain each character of `text` after its first character.
 fn are_name_parts(text: &[char]) -> bool
     ensures { result ≡ are_name_parts text.now }
 {
@@ -41,8 +41,8 @@ fn is_name(text: &[char]) -> bool
     }
 }
 
-/// Returns the fault of the text after a `<` that no `>` closes: `Unclosed` if it is a name or
-/// empty, and `GroupSyntax` otherwise.
+/// Returns the fault of the text after a `<` that is not closed by a `>`: `Unclosed` if the text is
+/// a name or empty, and `GroupSyntax` otherwise.
 fn name_fault(text: &[char]) -> Kind {
     if text.is_empty() || is_name(text) {
         Kind::Unclosed
@@ -56,7 +56,7 @@ fn name_fault(text: &[char]) -> Kind {
 /// # Errors
 ///
 /// Returns `Unclosed` if the text has no `>` and is a name or empty, and `GroupSyntax` if the text
-/// before `>`, or all of it without `>`, is not a name.
+/// before `>`, or the whole text if it has no `>`, is not a name.
 #[tactic(auto, unfolding(crate::specs::Openings::name_at))]
 fn name_at(text: &[char]) -> Result<(Token<'_>, &[char]), Fault>
     ensures { Yields (λ x. (token_view x.0, x.1.now)) result (name_at text.now) }
@@ -70,7 +70,7 @@ fn name_at(text: &[char]) -> Result<(Token<'_>, &[char]), Fault>
     Ok((Token::Open(GroupOpening::Named(name)), rest))
 }
 
-/// Reads the text after `(?P`. Returns the opening of the group and the text after it.
+/// Reads the text after `(?P`. Returns the opening of the group and the rest of the text.
 ///
 /// # Errors
 ///
@@ -87,11 +87,11 @@ fn python_at(text: &[char]) -> Result<(Token<'_>, &[char]), Fault>
     }
 }
 
-/// The letters of a flag setting that have been read.
+/// The part of a flag setting that has been read so far.
 #[derive(Clone, Copy)]
 pub struct Letters {
     change: Change,
-    /// Whether no dash has been read yet, so that the letters turn flags on.
+    /// Whether the next letters turn flags on: `true` until a dash is read.
     on: bool,
     /// Whether a letter must follow.
     pending: bool,
@@ -111,7 +111,7 @@ fn no_change() -> Change
     }
 }
 
-/// Returns the setting `on` of a flag whose setting so far is `flag`.
+/// Returns the setting `on` for a flag with the previous setting `flag`.
 ///
 /// # Errors
 ///
@@ -125,13 +125,13 @@ fn set_once(flag: Option<bool>, on: bool) -> Result<Option<bool>, Fault>
     }
 }
 
-/// Returns the flag setting with one more letter. The letter turns its flag on if `on`, and off
-/// otherwise.
+/// Returns the flag setting with one more letter. The letter turns its flag on if `on` is `true`,
+/// and off otherwise.
 ///
 /// # Errors
 ///
-/// Returns `FlagUnsupported` for `x`, and `FlagSyntax` if the letter is not the letter of a flag or
-/// was read before.
+/// Returns `FlagUnsupported` for `x`, and `FlagSyntax` if the letter does not name a flag or was
+/// read before.
 fn with_letter(change: Change, on: bool, letter: char) -> Result<Change, Fault>
     ensures { Yields (λ x. x) result (with_letter change on letter) }
 {
@@ -149,12 +149,12 @@ fn with_letter(change: Change, on: bool, letter: char) -> Result<Change, Fault>
     Ok(next)
 }
 
-/// Returns the letters with a dash after them. The dash turns off the flags of the letters that
-/// follow.
+/// Returns the letters followed by a dash. The dash turns off the flags of the letters that follow
+/// it.
 ///
 /// # Errors
 ///
-/// Returns `FlagSyntax` if there was a dash before.
+/// Returns `FlagSyntax` if a dash was read before.
 #[tactic(auto, unfolding(crate::specs::Openings::dash))]
 fn dash(letters: Letters) -> Result<Letters, Fault>
     ensures { Yields (λ x. x) result (dash letters) }
@@ -170,7 +170,7 @@ fn dash(letters: Letters) -> Result<Letters, Fault>
     }
 }
 
-/// Returns the letters with one more letter, or with a dash.
+/// Returns the letters followed by the letter or the dash `c`.
 ///
 /// # Errors
 ///
@@ -190,7 +190,8 @@ fn next_letter(letters: Letters, c: char) -> Result<Letters, Fault>
     })
 }
 
-/// Returns `token`, the token of a flag setting that ends here, and the rest of the text.
+/// Returns `token`, the token of a flag setting that ends after `letters`, and the rest of the
+/// text.
 ///
 /// # Errors
 ///
@@ -211,8 +212,8 @@ fn setting_end<'t>(
     }
 }
 
-/// Reads the letters of a flag setting up to `)` or `:`, after the letters `start`. Returns the
-/// token of the setting or of the group, and the rest of the text.
+/// Reads the letters of a flag setting up to `)` or `:`. `start` contains the letters read before.
+/// Returns the token of the setting or of the group, and the rest of the text.
 ///
 /// # Errors
 ///
@@ -245,7 +246,7 @@ fn letters_from(start: Letters, text: &[char]) -> Result<(Token<'_>, &[char]), F
 ///
 /// # Errors
 ///
-/// Returns `Unclosed` if the text is empty; otherwise the errors of `name_at`, `python_at` or
+/// Returns `Unclosed` if the text is empty, and otherwise the errors of `name_at`, `python_at` or
 /// `letters_from`.
 #[tactic(auto, unfolding(crate::specs::Openings::option_at))]
 fn option_at(text: &[char]) -> Result<(Token<'_>, &[char]), Fault>
@@ -260,7 +261,7 @@ fn option_at(text: &[char]) -> Result<(Token<'_>, &[char]), Fault>
     }
 }
 
-/// Returns the letters of a flag setting before the first one is read: no flag changes, and a
+/// Returns the letters of a flag setting before its first letter is read: no flag changes, and a
 /// letter must follow.
 fn no_letters() -> Letters
     ensures { result ≡ no_letters }
@@ -277,8 +278,8 @@ fn no_letters() -> Letters
 ///
 /// # Errors
 ///
-/// Returns `Unclosed`, `GroupSyntax`, `FlagSyntax` or `FlagUnsupported`: the first fault from the
-/// left.
+/// Returns the first fault from the left: `Unclosed`, `GroupSyntax`, `FlagSyntax` or
+/// `FlagUnsupported`.
 #[tactic(auto, unfolding(crate::specs::Openings::group_at))]
 pub fn group_at(text: &[char]) -> Result<(Token<'_>, &[char]), Fault>
     ensures { Yields (λ x. (token_view x.0, x.1.now)) result (group_at text.now) }

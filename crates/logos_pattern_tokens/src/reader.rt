@@ -1,5 +1,5 @@
-//! Reads one token from the front of a text, outside brackets. `logos_syntax` calls it in its loop,
-//! once for each token.
+//! Reads one token from the front of a text, outside brackets. `logos_syntax` calls `token_at` once
+//! for each token.
 
 ghost use Rattle.std.specs.Prelude.{◌≡◌};
 ghost use Rattle.logos_pattern_tokens.specs.Views.{Yields, token_view, escape_token_at, token_at};
@@ -11,7 +11,8 @@ use crate::openings::group_at;
 use crate::token::{Atom, Token};
 use std::alloc::Global;
 
-/// Reads an escape from the text after its backslash. Returns its token and the rest of the text.
+/// Reads an escape from the text after its backslash. Returns the token of the escape and the rest
+/// of the text.
 ///
 /// # Errors
 ///
@@ -24,13 +25,13 @@ fn escape_token_at(alloc: Global, text: &[char]) -> Result<(Token<'_>, &[char]),
     Ok((Token::Atom(atom), rest))
 }
 
-/// Reads the token at the front of the text, and returns it with the rest of the text. The text
-/// must not begin with `[`, since brackets have their own reader.
+/// Reads the token at the front of the text. Returns the token and the rest of the text. The text
+/// must not begin with `[`, because brackets have their own reader.
 ///
 /// # Errors
 ///
-/// Returns `Unclosed` if the text is empty or begins with `[`, otherwise the fault of the token,
-/// and `Memory` if memory runs out.
+/// Returns `Unclosed` if the text is empty or begins with `[`, the fault of the token if it is
+/// malformed, and `Memory` if memory runs out.
 #[tactic(auto, unfolding(crate::specs::Reader::token_at))]
 pub fn token_at(alloc: Global, text: &[char]) -> Result<(Token<'_>, &[char]), Fault>
     ensures { Yields (λ x. (token_view x.0, x.1.now)) result (token_at text.now) }

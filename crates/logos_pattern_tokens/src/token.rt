@@ -6,7 +6,7 @@ use unicode::sets::Set;
 /// The flags that are on at a point of a pattern's text.
 #[derive(Clone, Copy)]
 pub struct Flags {
-    /// `u`: the pattern matches characters. Without it, the pattern matches bytes.
+    /// `u`: the pattern matches characters. Without the flag, the pattern matches bytes.
     pub unicode: bool,
     /// `i`: letters match in both cases.
     pub ignore_case: bool,
@@ -14,9 +14,9 @@ pub struct Flags {
     pub multi_line: bool,
     /// `s`: `.` matches line ends too.
     pub dot_all: bool,
-    /// `U`: operators are lazy without `?`, and greedy with it.
+    /// `U`: operators are lazy without `?`, and greedy with `?`.
     pub swap_greed: bool,
-    /// `R`: lines end with CR, LF or CR LF. Without it, lines end with LF.
+    /// `R`: lines end with CR, LF or CR LF. Without the flag, lines end with LF.
     pub crlf: bool,
 }
 
@@ -32,8 +32,8 @@ pub struct Change {
     pub crlf: Option<bool>,
 }
 
-/// A repetition operator: the least count `least`, the greatest count `most`, which is `None` if
-/// there is no upper bound, and whether a `?` follows (`lazy`).
+/// A repetition operator with its counts `least` and `most`. `most` is `None` if there is no upper
+/// bound. `lazy` is `true` if a `?` follows.
 #[derive(Clone, Copy)]
 pub struct Operator {
     pub least: u32,
@@ -41,15 +41,15 @@ pub struct Operator {
     pub lazy: bool,
 }
 
-/// A part of a pattern, outside brackets, that can be repeated and has no parts itself. A `bool` is
-/// whether the atom is negated.
+/// A part of a pattern outside brackets that can be repeated and has no parts itself. The `bool` of
+/// an atom is `true` if the atom is negated.
 #[derive(Clone, Copy)]
 pub enum Atom {
     /// A character, or an escape of a character other than `\xNN`.
     Character(char),
     /// `\xNN`: a byte if the pattern matches bytes, and the character with this number otherwise.
     Byte(u8),
-    /// `.`: any character or byte but a line end, or any at all with the flag `s`.
+    /// `.`: any character or byte except a line end, or any character or byte with the flag `s`.
     Dot,
     /// `^`: the start of the input or, with the flag `m`, of a line.
     Caret,
@@ -74,7 +74,7 @@ pub enum GroupOpening<'t> {
     Capture,
     /// `(?P<name>` or `(?<name>`: the opening of a capture group with this name.
     Named(&'t [char]),
-    /// `(?:` or `(?flags:`: the opening of a group without capture, with its effect on the flags.
+    /// `(?:` or `(?flags:`: the opening of a non-capturing group, with its effect on the flags.
     Plain(Change),
 }
 

@@ -1,5 +1,5 @@
-//! Steps of trees: from the set of positions that read one byte to the positions that read the next
-//! byte. `logos_automaton` builds its states by these steps.
+//! Steps on trees, from the positions that read one byte to the positions that read the next byte.
+//! `logos_automaton` builds its states with these steps.
 
 #![tactic(auto)]
 

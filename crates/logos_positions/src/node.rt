@@ -1,5 +1,6 @@
-//! Trees, prepared for the automaton. `prepare` makes these trees, and steps read them. A tree is
-//! entered where a match of it begins, and can be left where a match of it ends.
+//! Trees prepared for the automaton. `prepare` makes these trees, and steps read them. A tree is
+//! entered at a point where a match of the tree begins, and can be left at a point where a match of
+//! the tree ends.
 
 ghost use Rattle.std.specs.Prelude.{◌≡◌, ◌+◌, ◌*◌, ◌^◌, ◌<◌, ◌≤◌, ◌-◌, IsTrue, false};
 ghost use Rattle.logos_positions.specs.Views.{count_of, core_of, is_measured};
@@ -8,7 +9,8 @@ ghost use Rattle.logos_positions.specs.Core as core;
 use crate::characters::reader::CharacterTable;
 use logos_hir::hir::{Look, Range};
 
-/// A tree whose parts and branches are in pairs, with the numbers of their positions.
+/// A prepared tree. Parts and branches are combined in pairs, and their numbers of positions are
+/// stored.
 #[derive(Drop)]
 pub enum Node {
     /// A tree that matches nothing.
@@ -17,9 +19,9 @@ pub enum Node {
     Empty,
     /// A run of bytes, matched in order.
     Literal(Vec<u8>),
-    /// One byte of a class, with its ranges.
+    /// One byte of a class, with the ranges of the class.
     Bytes(Vec<Range>),
-    /// One character of a class, with the table that reads it.
+    /// One character of a class, with the table that reads the character.
     Characters(CharacterTable),
     /// A look-around assertion: a condition on a point of the input.
     Look(Look),
@@ -37,7 +39,7 @@ pub enum Node {
         first: Box<Node>,
         second: Box<Node>,
     },
-    /// The body, at least `least` times, and at most `most` times if `most` is not `None`.
+    /// The body, repeated at least `least` times, and at most `most` times unless `most` is `None`.
     Repeat {
         least: usize,
         most: Option<usize>,
@@ -47,8 +49,8 @@ pub enum Node {
     },
 }
 
-/// Returns the number of copies of the body of a repetition that have their own positions: `most`,
-/// or at least one copy and `least` if `most` is `None`.
+/// Returns the number of copies of a repetition's body that have their own positions: `most`, or
+/// the larger of `least` and 1 if `most` is `None`.
 pub fn copy_count(least: usize, most: Option<usize>) -> usize
     ensures { result ≡ count_of least most }
 {
@@ -80,7 +82,7 @@ pub fn width(node: &Node) -> usize
     }
 }
 
-/// A tree in a step: its first position, and whether it is entered.
+/// The first position of a tree in a step, with a flag that is `true` if the tree is entered.
 #[derive(Clone, Copy)]
 pub struct TreeSpot {
     /// The first position of the tree.
@@ -90,7 +92,7 @@ pub struct TreeSpot {
 }
 
 impl TreeSpot {
-    /// Returns the spot of a tree that is not entered and whose positions begin at `base`.
+    /// Returns the spot of a tree that is not entered. The positions of the tree begin at `base`.
     pub fn unentered(base: usize) -> TreeSpot
         ensures base { result.base ≡ base }
         ensures entered { result.entered ≡ false }
@@ -101,8 +103,8 @@ impl TreeSpot {
         }
     }
 
-    /// Returns the spot of the tree after this one, whose positions are the next `width`. `entered`
-    /// is whether that tree is entered.
+    /// Returns the spot of the tree after this one. `width` is the number of positions of this
+    /// tree, and `entered` is `true` if the tree after it is entered.
     pub fn after(self, width: usize, entered: bool) -> TreeSpot
         requires { self.base + width < 2 ^ 64 }
         ensures base { result.base ≡ self.base + width }
@@ -115,7 +117,7 @@ impl TreeSpot {
     }
 }
 
-/// Copies of the body of a repetition, one after another.
+/// Consecutive copies of the body of a repetition.
 #[derive(Clone, Copy)]
 pub struct Copies {
     /// The first position of the first copy.
@@ -129,7 +131,7 @@ pub struct Copies {
 }
 
 impl Copies {
-    /// Returns `count` copies of a body with `each` positions, the first of which is at `spot`.
+    /// Returns `count` copies of a body with `each` positions. The first copy is at `spot`.
     pub fn new(spot: TreeSpot, each: usize, count: usize) -> Copies
         ensures base { result.base ≡ spot.base }
         ensures entered { result.entered ≡ spot.entered }
@@ -144,8 +146,8 @@ impl Copies {
         }
     }
 
-    /// Returns the copies from the one with the number `number` on. `entered` is whether the first
-    /// of these is entered.
+    /// Returns the copies from the copy with the number `number` on. `entered` is `true` if the
+    /// first of the returned copies is entered.
     pub fn from(self, number: usize, entered: bool) -> Copies
         requires fits { self.base + self.each * number < 2 ^ 64 }
         requires within { number ≤ self.count }
@@ -162,7 +164,7 @@ impl Copies {
         }
     }
 
-    /// Returns the spot of the copy with the number `number`. `entered` is whether that copy is
+    /// Returns the spot of the copy with the number `number`. `entered` is `true` if the copy is
     /// entered.
     pub fn at(self, number: usize, entered: bool) -> TreeSpot
         requires { self.base + self.each * number < 2 ^ 64 }

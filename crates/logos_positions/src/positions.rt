@@ -1,5 +1,5 @@
-//! Steps from the positions of a set to those that read the next byte. `logos_automaton` calls the
-//! steps for each state.
+//! Steps from a set of positions to the positions that read the next byte. `logos_automaton` takes
+//! these steps for each state.
 
 pub(crate) mod exits;
 pub mod look;

@@ -14,7 +14,7 @@ use crate::preparation::classes::joined_class;
 use logos_hir::hir::{Class, Hir, Range};
 use std::alloc::{AllocError, Global};
 
-/// Returns the prepared tree of a literal. One byte becomes a class.
+/// Returns the prepared tree of a literal. A literal of one byte becomes a class.
 ///
 /// # Errors
 ///
@@ -46,8 +46,8 @@ fn prepare_class(alloc: Global, class: &Class) -> Result<Node, AllocError>
     }
 }
 
-/// Returns the tree `first` followed by `second` if `in_order` is `true`, and the choice of the two
-/// otherwise. Each has its own positions.
+/// Returns the concatenation of `first` and `second` if `in_order` is `true`, and their alternation
+/// otherwise. Each of the two trees has its own positions.
 ///
 /// # Errors
 ///
@@ -77,8 +77,8 @@ fn apart(alloc: Global, in_order: bool, first: Node, second: Node) -> Result<Nod
     })
 }
 
-/// Returns the tree `first` followed by `second` if `in_order` is `true`, and the choice of the two
-/// otherwise. The choice of two classes of bytes is one class.
+/// Returns the concatenation of `first` and `second` if `in_order` is `true`, and their alternation
+/// otherwise. The alternation of two classes of bytes is one class.
 ///
 /// # Errors
 ///
@@ -100,8 +100,8 @@ fn pair(alloc: Global, in_order: bool, first: Node, second: Node) -> Result<Node
     }
 }
 
-/// Returns the combination of no trees: the empty string if `in_order` is `true`, and nothing
-/// otherwise.
+/// Returns the concatenation of no trees, which matches the empty string, if `in_order` is `true`.
+/// Otherwise, returns the alternation of no trees, which matches nothing.
 fn none_of(in_order: bool) -> Node
     ensures occurs { core_of result ≡ of_none in_order }
     ensures measured { IsTrue (is_measured result) }
@@ -112,7 +112,7 @@ fn none_of(in_order: bool) -> Node
     Node::Void
 }
 
-/// Returns the only tree of `nodes`, or the combination of no trees if there is none.
+/// Returns the only tree of `nodes`, or the result of `none_of` if `nodes` is empty.
 fn sole(in_order: bool, mut nodes: Vec<Node>) -> Node
     requires measured { AreMeasured nodes.items }
     requires few { vec_len nodes < 2 }
@@ -125,8 +125,8 @@ fn sole(in_order: bool, mut nodes: Vec<Node>) -> Node
     node
 }
 
-/// Combines trees in pairs of about the same length: all of them in order if `in_order` is `true`,
-/// and the choice of one of them otherwise.
+/// Combines trees in pairs, with about half of the trees on each side. Returns the concatenation of
+/// all trees if `in_order` is `true`, and their alternation otherwise.
 ///
 /// # Errors
 ///
@@ -147,7 +147,7 @@ fn join(alloc: Global, in_order: bool, mut nodes: Vec<Node>) -> Result<Node, All
     pair(alloc, in_order, first, second)
 }
 
-/// Returns a count as a `usize`, or `None` if there is none.
+/// Returns a count as a `usize`, or `None` if `count` is `None`.
 fn widen(count: Option<u32>) -> Option<usize>
     ensures { result ≡ count }
 {
@@ -157,7 +157,7 @@ fn widen(count: Option<u32>) -> Option<usize>
     }
 }
 
-/// Returns the prepared tree of `hir`, whose size must be within the limit.
+/// Returns the prepared tree of `hir`. The size of `hir` must be within the limit.
 ///
 /// # Errors
 ///
@@ -186,8 +186,8 @@ pub fn prepare(alloc: Global, hir: &Hir) -> Result<Node, AllocError>
     }
 }
 
-/// Returns the prepared tree of a repetition of `sub`, from `min` to `max` times, whose size must
-/// be within the limit.
+/// Returns the prepared tree of a repetition of `sub` from `min` to `max` times. The size of the
+/// repetition must be within the limit.
 ///
 /// # Errors
 ///
@@ -222,7 +222,7 @@ fn prepare_repetition(
     })
 }
 
-/// Returns the prepared tree of each of `hirs`, whose size must be within the limit.
+/// Returns the prepared tree of each of `hirs`. The total size of `hirs` must be within the limit.
 ///
 /// # Errors
 ///

@@ -1,4 +1,4 @@
-//! The selection of the program by the name under which the executable was invoked. Used by `main`.
+//! Selects the program by the name under which the executable was invoked. Used by `main`.
 
 ghost use Rattle.std.specs.Prelude.{◌≡◌, ◌≢◌, ◌<◌, ◌≤◌, ◌-◌, ℕ, List, MatchBool, length, slice_index};
 ghost use Rattle.logos_program.specs.Called.{IsLastName, IsNameStart, program_of};
@@ -16,12 +16,12 @@ pub(crate) enum Called {
     LogosShow,
 }
 
-/// The maximum length in bytes of a path by which a program is invoked, which is the limit of
+/// The maximum length, in bytes, of a path by which a program is invoked. This is the limit of
 /// Linux.
 const LONGEST_PATH: usize = 4096;
 
-/// Returns the name of the file to which `path` leads: the part after its last slash, or the whole
-/// path without one.
+/// Returns the name of the file to which `path` leads: the part of `path` after its last slash, or
+/// the whole path if it has no slash.
 fn name_in(path: &[u8]) -> &[u8]
     ensures { IsLastName path.now result.now }
 {
@@ -32,8 +32,7 @@ fn name_in(path: &[u8]) -> &[u8]
     &path[from..]
 }
 
-/// Returns whether the byte offset `offset` of `path` is 0, or the byte before that offset is a
-/// slash.
+/// Returns whether `offset` is 0, or the byte of `path` before this byte offset is a slash.
 fn is_name_start(path: &[u8], offset: usize) -> bool
     requires { offset ≤ length path.now }
     ensures { MatchBool result (IsNameStart path.now offset)
@@ -59,7 +58,7 @@ fn requested_by(name: &[u8]) -> Called
     Called::Logos
 }
 
-/// Returns the program that the path of an executable selects by the name at its end.
+/// Returns the program that the path of an executable selects by the name of the file.
 fn requested_at(path: &[u8]) -> Called
     ensures { (name : List ℕ) × IsLastName path.now name × (result ≡ program_of name) }
 {
@@ -67,8 +66,8 @@ fn requested_at(path: &[u8]) -> Called
 }
 
 /// Returns the program for the name under which the process was invoked, or `logos` if the name
-/// cannot be read. The function allocates no memory, so that a process has only the allocations of
-/// the program that is selected.
+/// cannot be read. The function allocates no memory, so that all allocations of a process are made
+/// by the selected program.
 pub(crate) fn requested_by_name<R: Env>(rt: &R) -> Called {
     let mut path = [0; LONGEST_PATH];
     match rt.arg(0, &mut path) {

@@ -1,5 +1,6 @@
-//! The programs `logos`, `logos_cli` and `logos_show`: one executable, which acts as the program
-//! whose name it is invoked under. It is built and checked once, since most of its code is shared.
+//! The executable of the programs `logos`, `logos_cli` and `logos_show`. It acts as the program
+//! under whose name it is invoked. One executable is built and checked for all three, because they
+//! share most of their code.
 
 #![tactic(auto)]
 
@@ -16,8 +17,9 @@ use logos_show::run_logos_show;
 use std::io;
 use std::process::ExitCode;
 
-/// Runs `logos` with `arguments`, those of the process, and returns the exit status. The program
-/// prints the lexer of an enum in a file or its state diagram, or lexes another file with it.
+/// Runs `logos` with `arguments`, the arguments of the process, and returns the exit status. The
+/// program reads an enum in a file, and prints the enum's lexer or state diagram, or lexes another
+/// file with the lexer.
 fn run_logos(rt: &HostRuntime, arguments: Result<Vec<String>, Failure<'static>>) -> u8
     requires { IfErr arguments (λ failure. (status_of failure ≡ 2) ⊎ (status_of failure ≡ 3)) }
     ensures usage { IfOk arguments.entry (λ passed.
@@ -34,7 +36,8 @@ fn run_logos(rt: &HostRuntime, arguments: Result<Vec<String>, Failure<'static>>)
     )
 }
 
-/// Runs the program `called` with `arguments`, those of the process, and returns the exit status.
+/// Runs the program `called` with `arguments`, the arguments of the process, and returns the exit
+/// status.
 fn run_called(
     rt: &HostRuntime,
     called: Called,

@@ -1,4 +1,4 @@
-//! Reads the request of `logos_show` from its arguments. Used by `logos_show`.
+//! Reads the request of `logos_show` from its arguments. Called by `logos_show`.
 
 ghost use Rattle.std.specs.Prelude.{◌≡◌, IfErr, IfOk, Some, map, option_map, string_bytes};
 ghost use Rattle.logos_questions.specs.Imports.{arguments_value, requested, inputs_given, kind_value, matches_given, number_named, option_value, order_given, location_named, question_given, question_named, question_value, request_given, request_value, status_of};
@@ -11,12 +11,12 @@ use logos_options::{
     style_given,
 };
 
-/// A request of `logos_show`, with the given settings.
+/// A request of `logos_show`, and the given settings.
 #[derive(Clone, Copy)]
 pub struct ShowRequest<'w> {
     pub kind: RequestKind<'w>,
-    /// The given settings. They are not in a variant of `kind`, since the borrow checker does not
-    /// cover a variant that holds their array.
+    /// The given settings. They are not stored in a variant of `kind`, because the borrow checker
+    /// does not support variants that contain the array of the settings.
     pub settings: Settings<'w>,
 }
 
@@ -28,7 +28,7 @@ pub enum RequestKind<'w> {
     Show(FileQuestion<'w>),
 }
 
-/// A question about the lexers of a file, with the path of the file.
+/// A question about the lexers of a file, together with the path of the file.
 #[derive(Clone, Copy)]
 pub struct FileQuestion<'w> {
     /// The path of the file.
@@ -38,14 +38,14 @@ pub struct FileQuestion<'w> {
     pub style: MessageStyle,
 }
 
-/// A question about the lexers of a file, with the given settings.
+/// A question about the lexers of a file, together with the given settings.
 #[derive(Clone, Copy)]
 pub struct ShowOrder<'w> {
     /// The path of the file.
     pub file: &'w str,
     pub question: Question<'w>,
-    /// The given settings: whether the answer is JSON, the path of a stored answer to compare it
-    /// with, the name of an enum, and whether a file with warnings is refused.
+    /// The given settings: whether the answer is JSON, the path of a stored answer with which the
+    /// answer is compared, the name of an enum, and whether a file with warnings is refused.
     pub settings: Settings<'w>,
     /// The style of messages.
     pub style: MessageStyle,
@@ -60,12 +60,13 @@ pub enum Question<'w> {
     Items(&'w str),
     /// The matches that start at a location of the file at this path.
     Matches(&'w str, Location),
-    /// For each leaf an input in which a lexer finds it, and one that it matches but loses to
-    /// another leaf.
+    /// For each leaf, an input in which a lexer finds the leaf, and an input that the leaf matches
+    /// although the lexer finds another leaf.
     Examples,
-    /// The first of the inputs that together take all edges of a lexer's graph, at most this many.
+    /// The first inputs, at most this many, of the inputs that together take all edges of a lexer's
+    /// graph.
     Inputs(usize),
-    /// Whether the lexer is equivalent to that of the file at this path.
+    /// Whether the lexer is equivalent to the lexer of the file at this path.
     Comparison(&'w str),
     /// A page about a lexer, written to the file at the first path. The page also shows the input
     /// at the second path, if there is one.
@@ -79,7 +80,7 @@ pub enum Question<'w> {
 /// # Errors
 ///
 /// Returns `UnknownOption` if an argument is an unknown option, and `Misuse` if the arguments are
-/// invalid otherwise.
+/// invalid for another reason.
 pub fn request_of(arguments: &[String]) -> Result<ShowRequest<'_>, Failure<'_>>
     ensures requested { IfOk result (λ request.
         requested (map string_bytes arguments.now) ≡ Some (request_value request)) }
@@ -121,8 +122,8 @@ fn kind_given(arguments: Arguments<'_>) -> Result<RequestKind<'_>, Failure<'_>>
     }
 }
 
-/// Returns the request with the question about a file that the parsed arguments make. They must
-/// name the file.
+/// Returns the request with the question about a file that the parsed arguments make. The arguments
+/// must name the file.
 fn order_given(arguments: Arguments<'_>) -> Result<RequestKind<'_>, Failure<'_>>
     ensures requested { IfOk result (λ kind. order_given (arguments_value arguments.entry)
         (arguments_value arguments.entry).first
@@ -148,8 +149,8 @@ fn order_given(arguments: Arguments<'_>) -> Result<RequestKind<'_>, Failure<'_>>
 }
 
 /// Returns the question about a file that the option `requested` and the second path `input` make.
-/// Without an option, it is about the items of the second path, or about the leaves if there is
-/// none.
+/// Without an option, the question is about the items of the file at the second path, or about the
+/// leaves if there is no second path.
 fn question_given<'w>(
     requested: Option<GivenOption<'w>>,
     input: Option<&'w str>,
@@ -168,8 +169,8 @@ fn question_given<'w>(
     }
 }
 
-/// Returns the question that the option `one` and the second path `input` make. Refuses a second
-/// path that is missing or that the option does not take.
+/// Returns the question that the option `one` and the second path `input` make. Refuses a missing
+/// second path if the option requires one, and any second path that the option does not take.
 fn question_named<'w>(
     one: GivenOption<'w>,
     input: Option<&'w str>,
@@ -192,7 +193,7 @@ fn question_named<'w>(
     }
 }
 
-/// Returns the question for at most `word` inputs. Refuses a `word` that is not a number from 1 on,
+/// Returns the question for at most `word` inputs. Refuses a `word` that is not a positive number,
 /// and any second path.
 fn inputs_given<'w>(word: &'w str, input: Option<&'w str>) -> Result<Question<'w>, Failure<'w>>
     ensures requested { IfOk result (λ question. inputs_given (number_named word.now)
@@ -207,8 +208,9 @@ fn inputs_given<'w>(word: &'w str, input: Option<&'w str>) -> Result<Question<'w
     }
 }
 
-/// Returns the question for the matches that start at the line and column `word` of the file at the
-/// path `input`. Refuses a missing path.
+/// Returns the question for the matches that start at a location of the file at the path `input`.
+/// `word` is the line and the column of the location. Refuses a malformed `word` and a missing
+/// path.
 fn matches_given<'w>(word: &'w str, input: Option<&'w str>) -> Result<Question<'w>, Failure<'w>>
     ensures requested { IfOk result (λ question. matches_given (location_named word.now)
         (option_map (λ path. path.now) input.entry) ≡ Some (question_value question)) }

@@ -17,7 +17,7 @@ pub fn push_same_record(lines: &mut JsonLines)
 }
 
 /// Appends the line with the object for two lexers that differ: an input, and the match or error
-/// that each lexer finds at its beginning.
+/// that each lexer finds at the beginning of the input.
 pub fn push_difference_record(
     lines: &mut JsonLines,
     input: &[u8],
@@ -51,7 +51,7 @@ fn push_finding(lines: &mut JsonLines, name: &str, finding: Finding<'_>)
 }
 
 /// Appends the line with the object for two lexers of which only one reads UTF-8. `one` and `other`
-/// state which.
+/// state whether the first and the second lexer read UTF-8.
 pub fn push_modes_record(lines: &mut JsonLines, one: bool, other: bool)
     ensures { Puts (object (bool_member (codes "same") false ++ (mode_member (codes "old") one
         ++ mode_member (codes "new") other)) ∷ []) lines.old lines.new }
@@ -64,7 +64,7 @@ pub fn push_modes_record(lines: &mut JsonLines, one: bool, other: bool)
     lines.end_line();
 }
 
-/// Appends a member with the name `name`, which states whether a lexer reads UTF-8.
+/// Appends a member with the name `name` that states whether a lexer reads UTF-8.
 fn push_mode(lines: &mut JsonLines, name: &str, is_utf8: bool)
     ensures { Gains (mode_member name.now is_utf8) lines.old lines.new }
 {

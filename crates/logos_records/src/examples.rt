@@ -17,13 +17,15 @@ pub struct NamedGraph<'g, 's> {
     pub graph: &'g Graph<'s>,
 }
 
-/// Appends an object for each leaf of a graph without faults: the name of its enum, the leaf, a
-/// shortest input in which a lexer finds the leaf first, and a shortest input that the leaf matches
-/// and a lexer finds as another leaf, with the other leaf. A missing input is null.
+/// Appends a line with an object for each leaf of a graph without faults.
+///
+/// The object has the name of the enum, the leaf, and two inputs: a shortest input in which a lexer
+/// finds the leaf first, and a shortest input that the leaf matches but a lexer finds as another
+/// leaf. The object also has the other leaf. A missing input is null.
 ///
 /// # Errors
 ///
-/// Returns `AllocError` if memory runs out. Then some objects may have been appended.
+/// Returns `AllocError` if memory runs out. In this case, some objects may have been appended.
 pub fn push_example_records(
     alloc: Global,
     lines: &mut JsonLines,
@@ -69,7 +71,7 @@ fn push_evidence(lines: &mut JsonLines, evidence: &Evidence)
     push_loss(lines, &evidence.loss);
 }
 
-/// Appends a member with the input that a leaf finds, or with null if it finds none.
+/// Appends a member with the input that a leaf finds, or with null if there is no such input.
 fn push_found(lines: &mut JsonLines, found: &Option<Vec<u8>>)
     ensures { Gains (maybe_bytes (codes "finds") (option_map (λ input. input.items) found.now))
         lines.old lines.new }
@@ -80,8 +82,8 @@ fn push_found(lines: &mut JsonLines, found: &Option<Vec<u8>>)
     }
 }
 
-/// Appends the members with an input that a leaf loses and the leaf that wins it. Both are null if
-/// the leaf never loses.
+/// Appends the members with an input that a leaf loses and the leaf that wins the input. Both
+/// members are null if the leaf never loses.
 fn push_loss(lines: &mut JsonLines, loss: &Option<Loss>)
     ensures { Gains (loss_members (option_map loss_value loss.now)) lines.old lines.new }
 {
@@ -91,7 +93,8 @@ fn push_loss(lines: &mut JsonLines, loss: &Option<Loss>)
     }
 }
 
-/// Appends the members with an input that a leaf loses, and the number of the leaf that wins it.
+/// Appends the members with an input that a leaf loses, and the number of the leaf that wins the
+/// input.
 fn push_lost(lines: &mut JsonLines, input: &[u8], winner: usize)
     ensures { Gains (bytes_member (codes "loses") input.now ++ number_member (codes "taker") winner)
         lines.old lines.new }

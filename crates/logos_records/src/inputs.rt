@@ -10,15 +10,15 @@ use logos_graph::graph::Graph;
 use logos_json::JsonLines;
 use std::alloc::{AllocError, Global};
 
-/// Lines of JSON about inputs, and the number of all inputs, of which the lines may be the first.
+/// Lines of JSON for the first inputs, and the number of all inputs.
 #[derive(Drop)]
 pub struct InputRecords {
     pub bytes: Vec<u8>,
     pub count: usize,
 }
 
-/// Returns a line with an object for each of the first `most` inputs of those that together take
-/// all edges of a graph, and the number of all these inputs.
+/// Finds inputs that together take all edges of a graph. Returns the first `most` of them as JSON
+/// objects, one on each line, and the number of all inputs found.
 ///
 /// # Errors
 ///
@@ -37,8 +37,8 @@ pub fn input_records(
     Ok(InputRecords { bytes, count })
 }
 
-/// Appends a line for each of the first `most` inputs of those that together take all edges of a
-/// graph. Returns the number of all these inputs.
+/// Appends a line for each of the first `most` inputs found that together take all edges of a
+/// graph. Returns the number of all inputs found.
 fn push_input_records(
     alloc: Global,
     lines: &mut JsonLines,

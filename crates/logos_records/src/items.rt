@@ -40,8 +40,8 @@ fn push_location_members(lines: &mut JsonLines, item: ItemRecord<'_>)
     lines.push_number("from", item.from);
 }
 
-/// Appends the members with the leaf, the variant and the text of an item. An error has null for
-/// the first two.
+/// Appends the members with the leaf, the variant and the text of an item. The leaf and the variant
+/// of an error are null.
 fn push_kind_members(lines: &mut JsonLines, item: ItemRecord<'_>)
     ensures { Gains (kind_members item.entry) lines.old lines.new }
 {

@@ -1,6 +1,6 @@
-//! Answers about a lexer, as lines of JSON: its leaves, its items, the matches from a point,
-//! examples for a leaf, inputs that take all of its edges, and whether two lexers are equivalent.
-//! Used by `logos_items`, `logos_replies` and `logos_show` for `--json`.
+//! Writes answers about lexers as lines of JSON: their leaves, the items of an input, the matches
+//! from a point, examples for a leaf, inputs that take all edges, and whether two lexers are
+//! equivalent. Used by `logos_items`, `logos_replies` and `logos_show` for `--json`.
 
 #![tactic(auto)]
 

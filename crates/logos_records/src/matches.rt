@@ -11,8 +11,8 @@ use logos_json::JsonLines;
 use logos_pattern::leaf::Leaf;
 use std::alloc::{AllocError, Global};
 
-/// An offset of an input, with the leaves of a lexer, and the number of the leaf whose match the
-/// lexer takes at the offset.
+/// The offset `from` of the input `input`. `leaves` are the leaves of a lexer, and `winner` is the
+/// number of the leaf whose match the lexer takes at the offset.
 #[derive(Clone, Copy)]
 struct StartRecord<'a, 's> {
     leaves: &'a [Leaf<'s>],
@@ -21,8 +21,9 @@ struct StartRecord<'a, 's> {
     winner: usize,
 }
 
-/// Returns a line with an object for each leaf that matches from the byte offset `from` of `input`:
-/// its longest match from there, and whether a lexer takes this match.
+/// Returns a line with an object for each leaf that matches from the byte offset `from` of `input`.
+/// The object has the leaf's longest match from this offset, and states whether a lexer takes the
+/// match.
 ///
 /// # Errors
 ///
@@ -44,8 +45,9 @@ pub fn match_records(
     Ok(bytes)
 }
 
-/// Appends a line with an object for each leaf that matches from the byte offset `from` of `input`:
-/// its longest match from there, and whether a lexer takes this match.
+/// Appends a line with an object for each leaf that matches from the byte offset `from` of `input`.
+/// The object has the leaf's longest match from this offset, and states whether a lexer takes the
+/// match.
 fn push_match_records(
     alloc: Global,
     lines: &mut JsonLines,
@@ -83,7 +85,7 @@ fn push_each(lines: &mut JsonLines, start: StartRecord<'_, '_>, longest: &[Optio
     }
 }
 
-/// Appends the line of a match, or nothing for `None`.
+/// Appends the line of a match. Appends nothing if `found` is `None`.
 fn push_found(lines: &mut JsonLines, start: StartRecord<'_, '_>, found: Option<Match>)
     ensures { Puts (match_lines start.entry.leaves.now start.entry.input.now start.entry.from
         start.entry.winner found) lines.old lines.new }
@@ -115,7 +117,8 @@ pub(crate) fn push_leaf_members(lines: &mut JsonLines, leaves: &[Leaf<'_>], leaf
     lines.push_maybe_text("variant", variant_at(leaves, leaf));
 }
 
-/// Appends the members with the span of a match, its text, and whether a lexer takes it.
+/// Appends the members with the span and the text of a match, and a member that states whether a
+/// lexer takes the match.
 fn push_end(lines: &mut JsonLines, start: StartRecord<'_, '_>, found: Match)
     ensures { Gains (end_members start.entry.input.now start.entry.from start.entry.winner found)
         lines.old lines.new }

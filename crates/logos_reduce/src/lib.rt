@@ -1,5 +1,5 @@
-//! Reduces a table of targets and marks to the least one, numbers its states by first visit, and
-//! records how they were separated. `logos_graph` calls `reduce` for each graph.
+//! Minimizes a table of targets and marks, numbers the states of the result by first visit, and
+//! records how the states were separated. `logos_graph` calls `reduce` for each graph.
 
 #![tactic(auto)]
 

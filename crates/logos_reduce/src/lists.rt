@@ -25,7 +25,7 @@ pub fn empty_lists(alloc: Global, len: usize) -> Result<Vec<Vec<usize>>, AllocEr
     Ok(lists)
 }
 
-/// Returns whether the last number of `list` is `s`. It is not if the list is empty.
+/// Returns whether the last number of `list` is `s`, or `false` if the list is empty.
 fn ends_with(list: &Vec<usize>, s: usize) -> bool
     ensures hit { IsTrue result → has list.now.items s ≡ true }
     ensures miss { IsFalse result → slice_get list.now.items (vec_len list.now - 1) ≢ Some s }
@@ -36,7 +36,7 @@ fn ends_with(list: &Vec<usize>, s: usize) -> bool
     }
 }
 
-/// Appends the number `s` to `list`, unless it is already the last one.
+/// Appends the number `s` to `list` unless `s` is already its last number.
 ///
 /// # Errors
 ///
@@ -53,7 +53,8 @@ pub fn add(list: &mut Vec<usize>, s: usize) -> Result<(), AllocError>
     Ok(())
 }
 
-/// Appends the state `s` to the list at the index `b`, unless it is already the last one there.
+/// Appends the state `s` to the list at the index `b` unless `s` is already the last state of this
+/// list.
 ///
 /// # Errors
 ///
@@ -72,8 +73,8 @@ pub fn file(lists: &mut Vec<Vec<usize>>, b: usize, s: usize) -> Result<(), Alloc
     Ok(())
 }
 
-/// Appends the state `s` to the list of `target`, unless that is `None` or the state is already the
-/// last one there.
+/// Appends the state `s` to the list of the state `target` unless `s` is already the last state of
+/// this list. Does nothing if `target` is `None`.
 fn file_target(
     lists: &mut Vec<Vec<usize>>,
     target: Option<usize>,
@@ -94,8 +95,8 @@ fn file_target(
     Ok(())
 }
 
-/// Appends the state `s`, whose row is `row`, to the list of each of its targets on the first
-/// `width` symbols.
+/// Appends the state `s` to the list of each of its targets on the first `width` symbols. `row` is
+/// the row of `s`.
 fn file_row(
     lists: &mut Vec<Vec<usize>>,
     row: &Row,
@@ -122,8 +123,8 @@ fn file_row(
     Ok(())
 }
 
-/// Returns for each state the states that lead to it on one of the first `width` symbols, ascending
-/// and without duplicates.
+/// Returns, for each state, the states that lead to it on one of the first `width` symbols, in
+/// ascending order and without duplicates.
 ///
 /// # Errors
 ///
@@ -146,7 +147,7 @@ pub fn predecessors(
     Ok(lists)
 }
 
-/// Returns the entry of `table` at each index in `numbers`.
+/// Returns the entries of `table` at the indices in `numbers`, in the order of `numbers`.
 ///
 /// # Errors
 ///

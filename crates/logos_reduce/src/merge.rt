@@ -1,5 +1,5 @@
-//! Merges states that no word distinguishes. `reduce` calls `merge` as its third step, after
-//! pruning.
+//! Merges equivalent states: states that no sequence of symbols distinguishes. `reduce` calls
+//! `merge` as its third step, after pruning.
 
 ghost use Rattle.std.specs.Prelude.{◌≡◌, ◌≢◌, ℕ, ◌+◌, ◌<◌, ◌≤◌, Some, IfOk, MatchOption, length, vec_len, slice_index, option_map};
 ghost use Rattle.logos_reduce.specs.Views.{target_by, target_block, IsSound, AreLeaders, IsMerged, IsFiner, IsExtension, IsLanding, size, to};
@@ -19,8 +19,8 @@ use crate::rows::{Row, WIDTH, same_until, target_at};
 use crate::table::Table;
 use std::alloc::{AllocError, Global};
 
-/// Returns the first symbol on which two rows lead to different blocks, where having no target
-/// counts as a block of its own. Returns `None` if there is no such symbol.
+/// Returns the first symbol on which two rows lead to different blocks, or `None` if there is no
+/// such symbol. A missing target counts as a block of its own. `blocks` is the block of each state.
 fn first_difference(row: &Row, other: &Row, blocks: &Vec<usize>) -> Option<usize>
     requires row { (k t : ℕ) → target_by row.now k ≡ Some t → t < vec_len blocks.now }
     requires other { (k t : ℕ) → target_by other.now k ≡ Some t → t < vec_len blocks.now }
@@ -41,7 +41,7 @@ fn first_difference(row: &Row, other: &Row, blocks: &Vec<usize>) -> Option<usize
     None
 }
 
-/// A state, the leader of the state's block, and a symbol on which they lead to different blocks.
+/// A state, the leader of its block, and a symbol on which the two lead to different blocks.
 #[derive(Clone, Copy, Drop)]
 struct Difference {
     leader: usize,
@@ -49,8 +49,8 @@ struct Difference {
     symbol: usize,
 }
 
-/// Returns a state that leads to another block than the leader of its own block does, with that
-/// symbol, or `None` if there is no such state.
+/// Returns a state, the leader of its block, and a symbol on which the two lead to different
+/// blocks. Returns `None` if there is no such state.
 fn find_difference(table: &Table, blocks: &Vec<usize>, leaders: &Vec<usize>) -> Option<Difference>
     requires len { vec_len blocks.now ≡ size table.now }
     requires within { (s : ℕ) → s < size table.now →
@@ -80,14 +80,14 @@ fn find_difference(table: &Table, blocks: &Vec<usize>, leaders: &Vec<usize>) -> 
     None
 }
 
-/// A cut of a block: those of its states that lead to one block on a symbol, or all that lead to
-/// none, move to a new block.
+/// A cut of a block. The states of the block that lead to the block `to` on `symbol`, or to no
+/// block if `to` is `None`, move to a new block.
 #[derive(Clone, Copy, Drop)]
 struct Cut {
     /// The block that is cut.
     home: usize,
     symbol: usize,
-    /// The block to which the states that move lead on `symbol`, or `None` if they lead to none.
+    /// The block to which the moved states lead on `symbol`, or `None` if they have no target.
     to: Option<usize>,
     /// The number of the new block.
     fresh: usize,
@@ -132,8 +132,8 @@ fn parts(
     Ok(parts)
 }
 
-/// Moves the state of `found`, and the states of its block that lead to the same block on the
-/// symbol, into a new block.
+/// Moves the state of `found` to a new block, together with the states of its old block that lead
+/// to the same block on the symbol of `found`.
 fn split_off(
     alloc: Global,
     table: &Table,
@@ -170,7 +170,7 @@ fn split_off(
     Ok(Blocks { of: parts, splits })
 }
 
-/// The blocks of states that no word distinguishes, with a leader for each block.
+/// The blocks of equivalent states, with a leader for each block.
 #[derive(Drop)]
 pub struct Partition {
     pub blocks: Blocks,
@@ -178,9 +178,10 @@ pub struct Partition {
     pub leaders: Vec<usize>,
 }
 
-/// Returns the blocks of the states that no word distinguishes. If there are at most about half as
-/// many classes as states, where a class has all states with a mark and a row, the classes are
-/// merged instead of the states.
+/// Returns the blocks of equivalent states.
+///
+/// The states are first grouped into classes with equal marks and equal rows. If there are at most
+/// about half as many classes as states, classes are merged instead of states.
 ///
 /// # Errors
 ///
@@ -208,8 +209,7 @@ pub fn merge(alloc: Global, table: &Table) -> Result<Partition, AllocError>
     })
 }
 
-/// Returns the blocks of the states that no word distinguishes, without grouping states into
-/// classes.
+/// Returns the blocks of equivalent states, without grouping states into classes.
 fn merge_classes(alloc: Global, table: &Table) -> Result<Partition, AllocError>
     ensures len { IfOk result (λ m. vec_len m.blocks.of ≡ size table.now) }
     ensures leaders_len { IfOk result (λ m. vec_len m.leaders ≡ vec_len m.blocks.splits) }

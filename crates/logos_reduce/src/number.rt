@@ -1,4 +1,5 @@
-//! Numbers states by first visit. `reduce` calls `number` as its last step.
+//! Numbers the blocks of a table by first visit, breadth first from the block of the root. `reduce`
+//! calls `number` as its last step.
 
 ghost use Rattle.std.specs.Prelude.{◌≡◌, ℕ, ◌+◌, ◌-◌, ◌<◌, ◌≤◌, ◌++◌, ◌∷◌, ◌⊎◌, ◌^◌, [], Some, OnOk, IfOk, length, vec_len, slice_index, option_map, option_and_then};
 ghost use Rattle.logos_reduce.specs.Views.{IsMet, Grows, target_by, target_in, target_of, target_block, AreLeaders, size, to, mark, mark_in, IsInTurn, AreUsed, IsNumbered, rows_of};
@@ -10,7 +11,8 @@ use crate::rows::{Row, Rows, WIDTH, fill_run, run_end, target_at};
 use crate::table::{StateMarks, Table};
 use std::alloc::{AllocError, Global};
 
-/// Appends the block `target` to `order`, if it is not `None` and not in the order yet.
+/// Appends the block `target` to `order` if it is not in the order yet. Does nothing if `target` is
+/// `None`.
 fn meet_target(order: &mut Order, target: Option<usize>) -> Result<(), AllocError>
     requires { (b : ℕ) → target ≡ Some b → b < vec_len order.old.numbers }
     ensures len { vec_len order.new.numbers ≡ vec_len order.old.numbers }
@@ -26,8 +28,8 @@ fn meet_target(order: &mut Order, target: Option<usize>) -> Result<(), AllocErro
     Ok(())
 }
 
-/// Appends the blocks to which the block at the index `i` of `order` leads, if they are not in the
-/// order yet.
+/// Appends to `order` the blocks to which its block at the index `i` leads, except blocks that are
+/// already in the order.
 fn meet_targets(
     order: &mut Order,
     table: &Table,
@@ -65,8 +67,8 @@ fn meet_targets(
     Ok(())
 }
 
-/// Returns the blocks to which the block of the state `root` leads, in the order of first visits,
-/// breadth first from that block.
+/// Returns the blocks that can be reached from the block of the state `root`, in breadth-first
+/// order.
 fn breadth_first(
     alloc: Global,
     table: &Table,
@@ -100,8 +102,8 @@ fn breadth_first(
     Ok(order)
 }
 
-/// Returns `row` with each target replaced by the new number of its block. `numbers` has one more
-/// than this number for each block.
+/// Returns `row` with each target replaced by the new number of its block. `blocks` is the block of
+/// each state, and `numbers` has one more than the new number of each block.
 fn numbered_row(row: &Row, blocks: &Vec<usize>, numbers: &Vec<usize>) -> Row
     requires inside { (k t : ℕ) → target_by row.now k ≡ Some t → t < vec_len blocks.now }
     requires within { (s : ℕ) → s < vec_len blocks.now →
@@ -126,7 +128,8 @@ fn numbered_row(row: &Row, blocks: &Vec<usize>, numbers: &Vec<usize>) -> Row
     numbered
 }
 
-/// Returns the entry for the new number of the block of `target`, or 0 if there is no target.
+/// Returns the row entry that leads to the block of `target` under its new number, or 0 if `target`
+/// is `None`. `blocks` is the block of each state, and `numbers` has the entry of each block.
 fn numbered_entry(target: Option<usize>, blocks: &Vec<usize>, numbers: &Vec<usize>) -> u32
     requires inside { (t : ℕ) → target ≡ Some t → t < vec_len blocks.now }
     requires within { (s : ℕ) → s < vec_len blocks.now →
@@ -199,16 +202,16 @@ fn numbered_marks(
     Ok(marks)
 }
 
-/// A table whose states are the blocks of another table, with the block of each state.
+/// A table whose states are the blocks of another table, with the block that each state represents.
 #[derive(Drop)]
 pub struct Numbering {
     pub table: Table,
-    /// For each state of the table, its block.
+    /// For each state of `table`, the block that it represents.
     pub states: Vec<usize>,
 }
 
-/// Returns the table whose states are the blocks of `table`, in the order of first visits from the
-/// block of the state `root`.
+/// Returns the table whose states are the blocks that can be reached from the block of the state
+/// `root`, in the order of first visits.
 ///
 /// # Errors
 ///

@@ -1,5 +1,5 @@
-//! States in the order in which they are visited. Pruning stores the states that remain in an
-//! `Order`, and `number` the blocks that it visits.
+//! States in the order in which they are visited. `prune` stores such an order of states, and
+//! `number` stores such an order of blocks.
 
 ghost use Rattle.std.specs.Prelude.{true, ◌≡◌, ℕ, ◌+◌, ◌<◌, ◌++◌, ◌∷◌, ◌⊎◌, [], OnOk, IfOk, length, vec_len, slice_index};
 ghost use Rattle.logos_reduce.specs.Imports.{IsOrder, IsMet, Grows};
@@ -17,7 +17,7 @@ pub struct Order {
 }
 
 impl Order {
-    /// Returns an order without states, for `len` states that can be visited.
+    /// Returns an empty order for `len` states.
     ///
     /// # Errors
     ///
@@ -34,8 +34,8 @@ impl Order {
         })
     }
 
-    /// Returns one more than the index of the state `s` in the order, or 0 if it was not visited or
-    /// there is no such state.
+    /// Returns one more than the index of the state `s` in the order, or 0 if the state was not
+    /// visited or does not exist.
     pub fn number_of(&self, s: usize) -> usize
         ensures { result ≡ slice_index self.now.numbers.items s }
     {
@@ -45,7 +45,7 @@ impl Order {
         0
     }
 
-    /// Appends the state `s` to the order, if it is not in the order yet.
+    /// Appends the state `s` to the order if it is not in the order yet.
     ///
     /// # Errors
     ///
@@ -69,7 +69,7 @@ impl Order {
         Ok(())
     }
 
-    /// Appends the state `s` to the order, if `wanted` is `true` and the state is not in the order
+    /// Appends the state `s` to the order if `wanted` is `true` and the state is not in the order
     /// yet.
     ///
     /// # Errors

@@ -1,5 +1,5 @@
-//! Removes the edges to states that have no mark and do not lead to a state with one. `reduce`
-//! calls `prune` as its second step, after marks are settled.
+//! Removes the edges to states that have no mark and lead to no state with a mark. `reduce` calls
+//! `prune` as its second step, after marks are settled.
 
 ghost use Rattle.std.specs.Prelude.{true, ◌≡◌, ℕ, ◌+◌, ◌<◌, ◌≤◌, ◌↔◌, ◌⊎◌, Some, OnOk, IfOk, IsTrue, IsSome, length, vec_len, slice_index};
 ghost use Rattle.logos_reduce.specs.Views.{has, IsMet, Grows, IsMarked, target_by, target_of, target_in, size, to, mark, type_of, IsSeed, AreUseful, met_target, IsPrunedTable, rows_of};
@@ -11,14 +11,14 @@ use crate::rows::{END, Row, Rows, WIDTH, run_end, set_run, target_at};
 use crate::table::{StateMarks, Table};
 use std::alloc::{AllocError, Global};
 
-/// Returns whether a state with the marks `mark` has an early or a late mark.
+/// Returns whether `mark` contains an early or a late mark.
 fn is_marked(mark: StateMarks) -> bool
     ensures { IsTrue result ↔ IsMarked (type_of mark) }
 {
     mark.early.is_some() || mark.accept.is_some()
 }
 
-/// Returns whether the state `s` has a mark, or leads to a state with a mark on the end.
+/// Returns whether the state `s` has a mark or leads to a marked state at the end of the input.
 fn is_seed(table: &Table, s: usize) -> bool
     requires { s < size table.now }
     ensures { IsTrue result ↔ IsSeed table.now s }
@@ -32,7 +32,8 @@ fn is_seed(table: &Table, s: usize) -> bool
     }
 }
 
-/// Returns the states that have a mark, or lead to a state with a mark on the end, ascending.
+/// Returns the states that have a mark or lead to a marked state at the end of the input. The
+/// states are in ascending order.
 fn seeds(alloc: Global, table: &Table) -> Result<Order, AllocError>
     ensures len { IfOk result (λ o. vec_len o.numbers ≡ size table.now) }
     ensures only { IfOk result (λ o. (s : ℕ) → IsMet o.numbers.items s → IsSeed table.now s) }
@@ -62,7 +63,7 @@ fn meet_all(order: &mut Order, list: &Vec<usize>) -> Result<(), AllocError>
     Ok(())
 }
 
-/// Returns the states that have a mark or lead to a state with a mark.
+/// Returns the states that have a mark or lead, in one or more steps, to a state with a mark.
 fn useful_states(alloc: Global, table: &Table) -> Result<Order, AllocError>
     ensures len { IfOk result (λ o. vec_len o.numbers ≡ size table.now) }
     ensures useful { IfOk result (λ o. AreUseful table.now o.numbers.items) }
@@ -116,7 +117,7 @@ fn prune_all(rows: &mut Vec<Row>, order: &Order)
     }
 }
 
-/// Returns the rows of a list without the targets that are not in `order`.
+/// Returns `rows` without the targets that are not in `order`.
 fn pruned_rows(rows: Rows, order: &Order) -> Rows
     ensures len { length (rows_of result) ≡ length (rows_of rows) }
     ensures rows { (s k : ℕ) → s < length (rows_of rows) → target_in (rows_of result) s k
@@ -130,8 +131,8 @@ fn pruned_rows(rows: Rows, order: &Order) -> Rows
     Rows { slots, distinct }
 }
 
-/// Returns the table without the edges to states that have no mark and do not lead to a state with
-/// one.
+/// Returns the table without the edges to states that have no mark and lead to no state with a
+/// mark.
 ///
 /// # Errors
 ///

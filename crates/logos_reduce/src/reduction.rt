@@ -1,4 +1,5 @@
-//! Reduces a table. `logos_graph` calls `reduce` with the table of an automaton.
+//! Reduces a table to the least table that records the same matches. `logos_graph` calls `reduce`
+//! with the table of an automaton.
 
 ghost use Rattle.std.specs.Prelude.{◌<◌, IfOk};
 ghost use Rattle.logos_reduce.specs.Views.{IsRaw, IsReductionOf, IsLeast, IsInOrder, IsSpareless, size, YieldsEvidence};
@@ -14,7 +15,7 @@ use std::alloc::{AllocError, Global};
 /// A reduced table, with the splits that separated its states.
 #[derive(Drop)]
 pub struct Reduction {
-    /// The reduced table. Its states are numbered by first visit from the root, which is 0.
+    /// The reduced table. Its states are numbered by first visit from the root, which is state 0.
     pub table: Table,
     /// For each state, the number of its block in `splits`.
     pub blocks: Vec<usize>,
@@ -22,14 +23,16 @@ pub struct Reduction {
     pub splits: Vec<Split>,
 }
 
-/// Returns the least table that records the same matches after the same bytes from the state `root`
-/// on.
+/// Returns the least table that records the same matches as `table` after the same bytes, from the
+/// state `root` on.
 ///
-/// Early marks are set, and late marks that they make redundant are removed; edges to states that
-/// have no mark and do not lead to a state with one are removed; states that no word distinguishes
-/// are merged; and the states to which the root leads are numbered by first visit. If each state
-/// can be reached, and there are only late marks, and none after the end, then each state is
-/// needed, and `splits` yields bytes that distinguish any two of them.
+/// Early marks are set, and the late marks that they make redundant are removed. Edges to states
+/// that have no mark and lead to no state with a mark are removed. Equivalent states are merged.
+/// The states that can be reached from the root are numbered by first visit.
+///
+/// Suppose that each state of `table` can be reached, that the root has no mark, that all marks are
+/// late, and that no state after the end of the input leads to a mark. Then each state of the
+/// result is needed, and `splits` yields bytes that distinguish any two states.
 ///
 /// # Errors
 ///

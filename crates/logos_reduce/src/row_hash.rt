@@ -2,7 +2,7 @@
 //! on the hash.
 //!
 //! Each entry is mixed with its own key, and the results are summed. The entries of a row are
-//! therefore independent of each other, and several are mixed at once.
+//! therefore mixed independently, and several at once.
 
 use crate::rows::{Row, WIDTH};
 
@@ -12,7 +12,7 @@ const MULTIPLIER: u32 = 0x9e37_79b1;
 /// The difference between the keys of two neighboring entries.
 const STEP: u32 = 0x85eb_ca77;
 
-/// An odd number of 64 bits that look random.
+/// An odd 64-bit number whose bits look random.
 const SPREAD: u64 = 0x9e37_79b9_7f4a_7c15;
 
 /// Returns `entry` mixed with `key`.

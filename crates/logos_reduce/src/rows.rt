@@ -1,5 +1,5 @@
-//! A list of rows of targets, which stores equal rows once unless their hashes collide. Each
-//! `Table` stores its rows in such a list.
+//! A list of rows of targets. Equal rows are stored once unless a different row has the same hash.
+//! Each `Table` stores its rows in such a list.
 
 ghost use Rattle.std.specs.Prelude.{◌≡◌, ◌≢◌, ℕ, ◌<◌, ◌≤◌, ◌+◌, ◌++◌, ◌∷◌, [], IfOk, IfSome, IsTrue, OnOk, length, vec_len, slice_index, slice_index_or};
 ghost use Rattle.logos_reduce.specs.Rows.{AreSame, AreWide, HasOnly, target_by};
@@ -8,14 +8,14 @@ use crate::row_hash::row_hash;
 use std::alloc::{AllocError, Global};
 use std::collections::HashMap;
 
-/// The number of symbols: the bytes, and the end of the input.
+/// The number of symbols: the 256 bytes, and the end of the input.
 pub const WIDTH: usize = 257;
 
 /// The symbol for the end of the input.
 pub const END: usize = 256;
 
-/// The target for each symbol: 0 if there is none, and otherwise one more than the number of the
-/// state. The symbols are the bytes, and after them the end.
+/// The row of a state: for each symbol, one more than the number of the target, or 0 if there is no
+/// target. The symbols are the bytes, followed by the end of the input.
 pub type Row = [u32; WIDTH];
 
 /// Rows without duplicates, unless two different rows have the same hash.
@@ -23,7 +23,7 @@ pub type Row = [u32; WIDTH];
 pub struct DistinctRows {
     /// The rows, in the order in which they were added.
     pub(crate) keys: Vec<Row>,
-    /// For each hash, the index in `keys` of the last row that was added with it.
+    /// For each hash, the index in `keys` of the last row that was added with this hash.
     found: HashMap<u64, usize>,
 }
 
@@ -70,7 +70,7 @@ impl Rows {
         &self.distinct.keys[self.slots[i]]
     }
 
-    /// Returns the index of row `i` of the list among the distinct rows.
+    /// Returns the index, among the distinct rows, of the row at the index `i` of the list.
     pub fn slot(&self, i: usize) -> usize
         requires { i < length (rows_of self.now) }
         ensures { result ≡ slice_index self.now.slots.items i }
@@ -93,8 +93,8 @@ impl Rows {
         &self.distinct.keys[slot]
     }
 
-    /// Returns the index of `row` among the distinct rows, or `None` if its hash does not lead to
-    /// an equal row.
+    /// Returns the index of `row` among the distinct rows, or `None` if it does not equal the last
+    /// row that was added with the hash `hash`.
     fn find(&self, row: &Row, hash: u64) -> Option<usize>
         ensures { IfSome result (λ slot. (slot < vec_len self.now.distinct.keys)
             × (slice_index_or self.now.distinct.keys.items slot [] ≡ row.now)) }
@@ -106,7 +106,7 @@ impl Rows {
         None
     }
 
-    /// Appends `row` to the distinct rows, and returns its index there.
+    /// Appends `row`, whose hash is `hash`, to the distinct rows, and returns its index among them.
     fn add(&mut self, row: &Row, hash: u64) -> Result<usize, AllocError>
         ensures slots { self.new.slots ≡ self.old.slots }
         ensures slot { IfOk result (λ slot. slot ≡ vec_len self.old.distinct.keys) }
@@ -119,8 +119,8 @@ impl Rows {
         Ok(slot)
     }
 
-    /// Returns the index of `row` among the distinct rows, and appends the row to these if it is
-    /// not found.
+    /// Returns the index of `row` among the distinct rows. Appends the row first if it is not
+    /// found.
     fn slot_of(&mut self, row: &Row) -> Result<usize, AllocError>
         ensures slots { self.new.slots ≡ self.old.slots }
         ensures slot { IfOk result (λ slot. (slot < vec_len self.new.distinct.keys)
@@ -151,7 +151,7 @@ impl Rows {
     }
 }
 
-/// Returns the target of `row` on the symbol `k`, or `None` if there is none.
+/// Returns the target of `row` on the symbol `k`, or `None` if there is no target.
 pub fn target_at(row: &Row, k: usize) -> Option<usize>
     requires { k < WIDTH }
     ensures { result ≡ target_by row.now k }
@@ -176,8 +176,8 @@ fn is_filled(row: &Row, from: usize, entry: u32) -> bool
     !differs
 }
 
-/// Returns the end of a run of entries from `start` on that equal the entry at `start`. The run is
-/// made of that entry and of whole groups after it.
+/// Returns the end of a run of equal entries that begins at the index `start`. The run consists of
+/// the entry at `start` and of whole groups after it.
 fn past_groups(row: &Row, start: usize) -> usize
     requires { start < WIDTH }
     ensures after { (start < result) × (result ≤ WIDTH) }
@@ -207,7 +207,7 @@ pub(crate) fn run_end(row: &Row, start: usize) -> usize
     end
 }
 
-/// Sets the entries from the index `from` to `to`, without `to`, to `entry`.
+/// Sets the entries at the indices `from..to` to `entry`.
 pub(crate) fn fill_run(row: &mut Row, from: usize, to: usize, entry: u32)
     requires { (from ≤ to) × (to ≤ WIDTH) }
     ensures len { length row.new ≡ WIDTH }
@@ -220,8 +220,8 @@ pub(crate) fn fill_run(row: &mut Row, from: usize, to: usize, entry: u32)
     }
 }
 
-/// Sets the entries of a run of equal entries from the index `from` to `to`, without `to`, to
-/// `entry`. Changes nothing if they already equal it.
+/// Sets the entries at the indices `from..to`, which are equal, to `entry`. Changes nothing if they
+/// already equal `entry`.
 pub(crate) fn set_run(row: &mut Row, from: usize, to: usize, entry: u32)
     requires within { (from < to) × (to ≤ WIDTH) }
     requires run { HasOnly row.old from to (slice_index row.old from) }
@@ -248,8 +248,8 @@ fn are_same(row: &Row, other: &Row, from: usize) -> bool
     !differ
 }
 
-/// Returns an index up to which two rows have equal entries from `start` on. Only whole groups are
-/// compared.
+/// Returns an index up to which two rows have equal entries from the index `start` on. Only whole
+/// groups are compared.
 fn past_same_groups(row: &Row, other: &Row, start: usize) -> usize
     requires { start ≤ WIDTH }
     ensures after { (start ≤ result) × (result ≤ WIDTH) }
@@ -262,7 +262,8 @@ fn past_same_groups(row: &Row, other: &Row, start: usize) -> usize
     end
 }
 
-/// Returns the first index from `start` on at which two rows differ, or `WIDTH` if there is none.
+/// Returns the first index from `start` on at which two rows differ, or `WIDTH` if there is no such
+/// index.
 pub(crate) fn same_until(row: &Row, other: &Row, start: usize) -> usize
     requires { start ≤ WIDTH }
     ensures after { (start ≤ result) × (result ≤ WIDTH) }

@@ -8,8 +8,8 @@ use crate::rows::{END, Row, WIDTH, run_end, target_at};
 use crate::table::{StateMarks, Table};
 use std::alloc::{AllocError, Global};
 
-/// Returns the leaf of the late mark of the target of `row` on the symbol `k`, or `None` if there
-/// is no target or it has no late mark.
+/// Returns the late mark of the state to which `row` leads on the symbol `k`, or `None` if there is
+/// no such state or it has no late mark.
 fn accepted_by(table: &Table, row: &Row, k: usize) -> Option<usize>
     requires { k < WIDTH }
     ensures { result ≡ accepted_in table.now row.now k }
@@ -17,8 +17,8 @@ fn accepted_by(table: &Table, row: &Row, k: usize) -> Option<usize>
     table.accept(target_at(row, k)?)
 }
 
-/// Returns the leaf of the late marks of all targets of `row`. Returns `None` if a byte or the end
-/// has no target, or the late marks differ or are missing.
+/// Returns the late mark that all targets of `row` share. Returns `None` if a symbol has no target,
+/// or if the late marks of the targets differ or are missing.
 fn common_leaf(table: &Table, row: &Row) -> Option<usize>
     ensures { IsCommonIn table.now row.now result }
 {
@@ -31,8 +31,8 @@ fn common_leaf(table: &Table, row: &Row) -> Option<usize>
     Some(leaf)
 }
 
-/// Returns for each distinct row the leaf of the late marks of all its targets, or `None` if there
-/// is no such leaf.
+/// Returns, for each distinct row, the late mark that all its targets share, or `None` if there is
+/// no such mark.
 fn common_leaves(alloc: Global, table: &Table) -> Result<Vec<Option<usize>>, AllocError>
     ensures len { IfOk result (λ v. vec_len v ≡ length table.now.rows.distinct.keys.items) }
     ensures leaves { IfOk result (λ v.
@@ -59,8 +59,8 @@ fn early_marks(alloc: Global, table: &Table) -> Result<Vec<Option<usize>>, Alloc
     Ok(early)
 }
 
-/// Sets the flag of the target `t` if its late mark is needed: if it differs from `early`, the
-/// early mark of a state that leads to the target.
+/// Sets the flag of the state `t` in `needed` if its late mark differs from `early`, the early mark
+/// of a state that leads to `t`. The late mark is then needed.
 fn note_target(table: &Table, t: usize, early: Option<usize>, needed: &mut Vec<bool>)
     requires inside { t < size table.now }
     requires len { vec_len needed.old ≡ size table.now }
@@ -75,8 +75,8 @@ fn note_target(table: &Table, t: usize, early: Option<usize>, needed: &mut Vec<b
     }
 }
 
-/// Sets the flag of `target`, the target of an edge, if there is one and its late mark differs from
-/// `early`, the early mark of the state that the edge leaves.
+/// Sets the flag of `target`, the target of an edge, in `needed` if its late mark differs from
+/// `early`, the early mark of the state that the edge leaves. Does nothing if `target` is `None`.
 fn note_edge(table: &Table, target: Option<usize>, early: Option<usize>, needed: &mut Vec<bool>)
     requires inside { (t : ℕ) → target ≡ Some t → t < size table.now }
     requires len { vec_len needed.old ≡ size table.now }
@@ -92,8 +92,8 @@ fn note_edge(table: &Table, target: Option<usize>, early: Option<usize>, needed:
     }
 }
 
-/// Sets the flag of each target of the state `s` whose late mark differs from `early`, the early
-/// mark of the state.
+/// Sets the flag in `needed` of each target of the state `s` whose late mark differs from `early`,
+/// the early mark of `s`.
 fn note_targets(table: &Table, s: usize, early: Option<usize>, needed: &mut Vec<bool>)
     requires state { s < size table.now }
     requires len { vec_len needed.old ≡ size table.now }
@@ -111,7 +111,8 @@ fn note_targets(table: &Table, s: usize, early: Option<usize>, needed: &mut Vec<
     }
 }
 
-/// Returns for each state whether its late mark is needed. `early` is the early mark of each state.
+/// Returns, for each state, whether its late mark is needed. `early` is the early mark of each
+/// state.
 fn needed_marks(
     alloc: Global,
     table: &Table,
@@ -129,8 +130,8 @@ fn needed_marks(
     Ok(needed)
 }
 
-/// Returns the marks of a state that had `mark`, given its early mark and whether its late mark is
-/// needed.
+/// Returns the settled marks of a state: the early mark `early`, and the late mark of `mark` if
+/// `needed` is `true`.
 fn settled_mark(mark: StateMarks, early: Option<usize>, needed: bool) -> StateMarks
     ensures early { result.early ≡ early }
     ensures accept { result.accept ≡ (if needed then mark.accept else None) }
@@ -141,8 +142,8 @@ fn settled_mark(mark: StateMarks, early: Option<usize>, needed: bool) -> StateMa
     }
 }
 
-/// Returns the marks of all states, given the early mark of each state and whether its late mark is
-/// needed.
+/// Returns the settled marks of all states. `early` is the early mark of each state, and `needed`
+/// is `true` for each state whose late mark is needed.
 fn settled_marks(
     alloc: Global,
     table: &Table,

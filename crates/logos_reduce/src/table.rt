@@ -1,5 +1,5 @@
-//! Tables: states with their marks, and rows of targets. `logos_graph` makes a table of an
-//! automaton, and each step of the reduction makes a table of another one.
+//! Tables of states with their marks and rows of targets. `logos_graph` builds a table from an
+//! automaton, and the reduction builds further tables from it.
 
 ghost use Rattle.std.specs.Prelude.{◌≡◌, ℕ, ◌+◌, ◌<◌, ◌^◌, Some, length, vec_len};
 ghost use Rattle.logos_reduce.specs.Rows.{IsClosed, target_by};
@@ -11,14 +11,14 @@ use crate::rows::{Row, Rows, WIDTH, target_at};
 /// byte before.
 #[derive(Clone, Copy, PartialEq, Eq, Drop)]
 pub struct StateMarks {
-    /// The late mark: the leaf whose match ends one byte before the state, or `None` if there is
-    /// none.
+    /// The late mark: the leaf whose match ends one byte before the state, or `None` if there is no
+    /// such leaf.
     pub accept: Option<usize>,
-    /// The early mark: the leaf whose match ends at the state, or `None` if there is none.
+    /// The early mark: the leaf whose match ends at the state, or `None` if there is no such leaf.
     pub early: Option<usize>,
 }
 
-/// States by their numbers, with marks and a row of targets for each.
+/// A table of states. Each state has a number, marks and a row of targets.
 #[derive(Drop)]
 pub struct Table {
     pub(crate) marks: Vec<StateMarks>,
@@ -31,11 +31,12 @@ pub struct Table {
 impl Table {
     ghost use Rattle.logos_reduce.specs.Table.{mark_in, size, to, mark};
 
-    /// Returns the table with `marks` and `rows`: state `s` has the entry `s` of both.
+    /// Returns a table with `marks` and `rows`. The state `s` has the marks and the row at the
+    /// index `s`.
     ///
-    /// The caller must ensure that there is a mark for each row, that each target is the number of
-    /// a state, and that there are fewer than 4,294,967,295 states. The rows are added one by one
-    /// with `Rows::push`, in the order of the states.
+    /// The caller must ensure that there are as many marks as rows, that each target is the number
+    /// of a state, and that there are fewer than 4,294,967,295 states. The rows are added one by
+    /// one with `Rows::push`, in the order of the states.
     pub fn new(marks: Vec<StateMarks>, rows: Rows) -> Table
         requires same_len { length (rows_of rows) ≡ vec_len marks }
         requires closed { IsClosed (vec_len marks) (rows_of rows) }
@@ -61,7 +62,8 @@ impl Table {
         self.marks[s]
     }
 
-    /// Returns the late mark of the state `s`, or `None` if it has none or there is no such state.
+    /// Returns the late mark of the state `s`, or `None` if the state has no late mark or does not
+    /// exist.
     pub(crate) fn accept(&self, s: usize) -> Option<usize>
         ensures { result ≡ (mark self.now s).accept }
     {
@@ -80,7 +82,7 @@ impl Table {
         self.rows.get(s)
     }
 
-    /// Returns the target of the state `s` on the symbol `k`, or `None` if there is none.
+    /// Returns the target of the state `s` on the symbol `k`, or `None` if there is no target.
     pub fn target(&self, s: usize, k: usize) -> Option<usize>
         requires state { s < size self.now }
         requires symbol { k < WIDTH }

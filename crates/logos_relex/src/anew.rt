@@ -1,4 +1,4 @@
-//! Lexes from a border until a former border is met, or the input ends. Called by `Lexed`.
+//! Lexes an input from a border until a former border is met, or the input ends. Called by `Lexed`.
 
 ghost use Rattle.std.specs.Prelude.{◌≤◌, ◌<◌, ◌^◌, IfOk, drop, length};
 ghost use Rattle.logos_relex.specs.Views.{answers_of, bytes_of, IsAnew, IsBorder, IsMade, TakesMatches};
@@ -11,26 +11,26 @@ use logos_hir::leaf::LeafId;
 use logos_machine::machine::Action;
 use std::alloc::Global;
 
-/// The length in bytes of the window of a chunk, unless a former chunk determines it.
+/// The length in bytes of the window of a chunk, unless a former chunk determines the length.
 const WINDOW: usize = 4096;
 
-/// The chunks or the items after the new chunks.
+/// The former chunks or the last items that follow the new chunks.
 #[derive(Drop)]
 pub(crate) enum After {
-    /// The former chunks from this index, and the items after them.
+    /// The former chunks from this index on, and the items after these chunks.
     Former(usize),
     /// The last items of the input.
     Last(Vec<ItemAt>),
 }
 
-/// New chunks, and the chunks or the items after them.
+/// New chunks, and the former chunks or the last items that follow them.
 #[derive(Drop)]
 pub(crate) struct Anew {
     pub chunks: Vec<Chunk>,
     pub after: After,
 }
 
-/// Returns the chunks of an input, and the items after its last chunk.
+/// Returns the chunks of an input, and the items after the last chunk.
 ///
 /// # Errors
 ///
@@ -56,9 +56,9 @@ pub(crate) fn make<C: Fn(LeafId, &[u8]) -> Action>(
     Ok((chunks, last))
 }
 
-/// Returns the number of the `left` remaining bytes to examine. The bytes reach as far as the
-/// former chunk that ends at `border` examined bytes, so that the border is met if the items stay
-/// unchanged. If the number would be 0 or more than twice `WINDOW`, it is `WINDOW`.
+/// Returns the number of bytes to examine if `left` bytes remain. The bytes reach as far as the
+/// bytes that the former chunk before `border` examined, so that the border is met again if the
+/// items are unchanged. If the number would be 0 or more than twice `WINDOW`, returns `WINDOW`.
 fn window(former: &Lexed, border: Border, left: usize) -> usize
     ensures { 0 < result }
 {
@@ -76,7 +76,8 @@ fn window(former: &Lexed, border: Border, left: usize) -> usize
 }
 
 /// Lexes an edited input from the border `start` until a former border after the edit is met, or
-/// the input ends. Returns the new chunks, and the chunks or the items after them.
+/// the input ends. Returns the new chunks, and the former chunks or the last items that follow
+/// them.
 ///
 /// # Errors
 ///

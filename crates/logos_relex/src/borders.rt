@@ -5,7 +5,8 @@ ghost use Rattle.logos_relex.specs.Views.{bytes_of, IsBorder, LookBelow};
 
 use crate::chunk::Chunk;
 
-/// A border between chunks: the number of chunks before it, and the number of their bytes.
+/// A border between chunks: the number of chunks before the border, and the number of bytes in
+/// these chunks.
 #[derive(Clone, Copy)]
 pub(crate) struct Border {
     pub index: usize,
@@ -29,7 +30,8 @@ pub(crate) fn untouched(chunks: &[Chunk], limit: usize) -> Border
     border
 }
 
-/// Returns the first border at or after `from` that is not before `offset`, or the last one.
+/// Returns the first border from `from` on that is not before the byte offset `offset`, or the last
+/// border if there is no such border.
 pub(crate) fn border_from(chunks: &[Chunk], from: Border, offset: usize) -> Border
     requires border { IsBorder chunks.now from }
     requires bytes { bytes_of chunks.now < 2 ^ 64 }

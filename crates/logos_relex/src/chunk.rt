@@ -1,5 +1,5 @@
-//! Chunks: the items of a few thousand bytes, which the bytes of a window alone determine. Used by
-//! `anew`, `borders` and `lexed`.
+//! Finds chunks: the items of a few thousand bytes that the bytes of a window alone determine. Used
+//! by `anew`, `borders` and `lexed`.
 
 ghost use Rattle.std.specs.Prelude.{◌≡◌, ◌<◌, ◌≤◌, length, map, take, IfOk, IfErr, IfSome};
 ghost use Rattle.logos_relex.specs.Views.{Runs, answers_of, offset_of, item_at, IsChunk, IsInput, IsRefused, SettlesUpTo, TakesMatches};
@@ -89,8 +89,8 @@ fn settled<C: Fn(LeafId, &[u8]) -> Action + Drop>(
     Ok((items, lexer.span().to))
 }
 
-/// Returns the longest prefix of `part` that a lexer of the code accepts: in UTF-8 mode, its
-/// longest prefix that is UTF-8.
+/// Returns the longest prefix of `part` that a lexer of the code accepts: the longest UTF-8 prefix
+/// in UTF-8 mode, and otherwise all of `part`.
 fn characters<'p>(code: &Code, part: &'p [u8]) -> &'p [u8]
     ensures front { result.now ≡ take (length result.now) part.now }
     ensures within { length result.now ≤ length part.now }
@@ -135,8 +135,8 @@ fn chunk_of<C: Fn(LeafId, &[u8]) -> Action + Drop>(
     }))
 }
 
-/// Returns the first chunk of `bytes`. The window has `size` bytes, and is doubled until it
-/// determines a chunk. Returns `None` if no window that is shorter than `bytes` does.
+/// Returns the first chunk of `bytes`. The window has `size` bytes at first, and is doubled until
+/// it determines a chunk. Returns `None` if no window shorter than `bytes` determines a chunk.
 ///
 /// # Errors
 ///

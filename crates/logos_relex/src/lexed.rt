@@ -12,7 +12,7 @@ use logos_machine::machine::{Action, NotUtf8};
 use logos_token::token::Span;
 use std::alloc::{AllocError, AllocFailed, Global};
 
-/// The reason that an input cannot be lexed.
+/// The reason why an input cannot be lexed.
 #[derive(Clone, Copy, Debug, PartialEq, Eq)]
 pub enum RelexError {
     /// An input that is not UTF-8, for a code in UTF-8 mode. `valid_up_to` is the length in bytes
@@ -57,8 +57,8 @@ pub struct Edit<'i> {
     pub input: &'i [u8],
 }
 
-/// The items of an input, in chunks. After an edit, only chunks that examined the edited bytes are
-/// lexed again.
+/// The items of an input, in chunks. After an edit, the input is lexed again from the first chunk
+/// that examined edited bytes until a former border is met again.
 #[derive(Debug, Drop)]
 pub struct Lexed {
     alloc: Global,
@@ -68,8 +68,8 @@ pub struct Lexed {
 }
 
 impl Lexed {
-    /// Returns the items of `input` under `code`. For each match of a leaf that has a callback,
-    /// `callback` receives the leaf and the slice, and returns the action.
+    /// Returns the items that `code` finds in `input`. For each match of a leaf that has a
+    /// callback, `callback` receives the leaf and the slice, and returns the action.
     ///
     /// # Errors
     ///
@@ -127,16 +127,17 @@ impl Lexed {
         })
     }
 
-    /// Replaces the items by those of the edited input. `code` and `callback` must be those of the
-    /// former items, and the input must be unchanged outside of the replaced span. Items that do
-    /// not depend on the edit stay: those before it, and those from the first border after it that
-    /// the new items also reach. `callback` is called only for bytes that are lexed again, so its
-    /// action must depend on the leaf and the slice alone.
+    /// Replaces the items with the items of the edited input. `code` and `callback` must be the
+    /// code and the callback of the former items, and the input must be unchanged outside of the
+    /// replaced span. Items that do not depend on the edit remain: the items before the edit, and
+    /// the items from the first border after the edit that the new items also reach. `callback` is
+    /// called only for bytes that are lexed again, so its action must depend on the leaf and the
+    /// slice alone.
     ///
     /// # Errors
     ///
     /// Returns `NotUtf8` if the code is in UTF-8 mode and the input is not UTF-8, and `Memory` if
-    /// memory runs out. The items are then still those of the former input.
+    /// memory runs out. The former items then remain unchanged.
     pub fn relex<C: Fn(LeafId, &[u8]) -> Action>(
         &mut self,
         code: &Code,
@@ -165,7 +166,7 @@ impl Lexed {
     /// # Errors
     ///
     /// Returns `NotUtf8` if the code is in UTF-8 mode and the input is not UTF-8, and `Memory` if
-    /// memory runs out. The former items then stay unchanged.
+    /// memory runs out. The former items then remain unchanged.
     fn relex_whole<C: Fn(LeafId, &[u8]) -> Action>(
         &mut self,
         code: &Code,
@@ -186,12 +187,13 @@ impl Lexed {
         Ok(())
     }
 
-    /// Replaces the former chunks from index `from` with the new ones, up to the former chunk or
-    /// the last items that follow them. The edited input has `length` bytes.
+    /// Replaces the former chunks from the index `from` on with the chunks in `made`, up to the
+    /// former chunk that follows them. If no former chunk follows them, also replaces the last
+    /// items. The edited input has `length` bytes.
     ///
     /// # Errors
     ///
-    /// Returns `Memory` if memory runs out. The former items then stay unchanged.
+    /// Returns `Memory` if memory runs out. The former items then remain unchanged.
     fn put(&mut self, from: usize, made: Anew, length: usize) -> Result<(), RelexError>
         requires { ComesAfter self.old from made.after }
         ensures puts { OnOk result (PutsAnew from made length self.old self.new) }
@@ -226,8 +228,8 @@ impl Lexed {
         self.length
     }
 
-    /// Returns the chunks, in order. The first begins at the input's first byte, and every other
-    /// chunk where its predecessor ends.
+    /// Returns the chunks, in order. The first chunk begins at the input's first byte, and every
+    /// other chunk begins where its predecessor ends.
     pub fn chunks(&self) -> &[Chunk]
         ensures { result.now ≡ self.now.chunks.items }
     {

@@ -1,5 +1,5 @@
-//! Lexes an input again after an edit: only the chunks that examined the edited bytes. Called by
-//! users' code.
+//! Updates the items of an input after an edit, without lexing chunks again that do not depend on
+//! the edit. Called by users' code.
 
 #![tactic(auto)]
 

@@ -1,4 +1,4 @@
-//! Prints the leaves of a lexer and its cost, or examples of its leaves. Used by the modules
+//! Prints the leaves and the cost of a lexer, or examples of its leaves. Used by the modules
 //! `page_files` and `pages` of `logos_show`.
 
 use logos_answers::{push_costs, push_examples, push_rows};
@@ -22,8 +22,8 @@ pub enum Form {
     ExampleRecords,
 }
 
-/// An enum of a file: the part of the file that begins at it, the lines of the file, and its own
-/// text.
+/// An enum of a file: the part of the file that begins at the enum, the lines of the file, and the
+/// text of the enum.
 #[derive(Clone, Copy)]
 pub struct EnumInFile<'f, 's> {
     pub part: Part<'f, 's>,
@@ -31,8 +31,8 @@ pub struct EnumInFile<'f, 's> {
     pub text: &'s str,
 }
 
-/// Appends the leaves of the lexer `made` of an enum and its cost, or examples of its leaves: as
-/// text to `page`, or as JSON to `lines`.
+/// Appends the leaves and the cost of the lexer `made`, or examples of its leaves, in the form
+/// `form`: as text to `page`, or as JSON to `lines`. `one` is the enum of the lexer.
 ///
 /// # Errors
 ///
@@ -87,7 +87,8 @@ fn push_example_lines(
     Ok(())
 }
 
-/// Appends the leaves of the lexer `made` of an enum and its cost, as lines of JSON.
+/// Appends the leaves and the cost of the lexer `made` as lines of JSON. `one` is the enum of the
+/// lexer.
 fn push_leaves(
     alloc: Global,
     lines: &mut JsonLines,
@@ -100,7 +101,8 @@ fn push_leaves(
     Ok(())
 }
 
-/// Returns the rows of the leaves of the lexer `made` of an enum, in the order of the leaves.
+/// Returns the rows of the leaves of the lexer `made`, in the order of the leaves. `one` is the
+/// enum of the lexer.
 ///
 /// # Errors
 ///
@@ -117,8 +119,8 @@ pub fn rows_of<'l>(
     Ok(rows)
 }
 
-/// Appends the name of an enum, the path of its file, the line of its name there, and an empty
-/// line.
+/// Appends the name of an enum, the path of its file, the number of the line that contains the
+/// name, and an empty line.
 fn push_title(page: &mut Page, part: Part<'_, '_>, made: &Generated<'_>) {
     page.push("enum ");
     page.push(made.name.text);

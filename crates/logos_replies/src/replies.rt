@@ -1,4 +1,4 @@
-//! Writes the matches at a point of an input, the inputs that take all edges, and the outcome of a
+//! Writes the matches at a point of an input, inputs that take all edges, and the outcome of a
 //! comparison with a stored answer. Used by the modules `inputs`, `matches` and `program` of
 //! `logos_show`.
 
@@ -16,7 +16,7 @@ use logos_records::{input_records, match_records};
 use std::alloc::{AllocError, Global};
 use std::io::Write;
 
-/// The outcome of a comparison of two lexers, or of an answer with a stored one.
+/// The outcome of comparing two lexers, or an answer with a stored answer.
 #[derive(Clone, Copy)]
 pub enum Agreement {
     Same,
@@ -31,9 +31,9 @@ pub struct InputPoint<'w, 'i> {
     pub location: Location,
 }
 
-/// Writes the matches that start at a point of an input, as lines of text. Before the matches is
-/// the match or the error around the point, if there is one. If no leaf matches, the partial
-/// matches are written.
+/// Writes the matches that start at a point of an input, as lines of text. The match or the error
+/// around the point, if there is one, is written before the matches. If no leaf matches, the
+/// partial matches are written.
 ///
 /// # Errors
 ///
@@ -100,7 +100,7 @@ fn push_location(page: &mut Page, location: Location)
     page.push("\n");
 }
 
-/// Returns the refusal of an input at `path` that does not have `location`.
+/// Returns the refusal of the input at `path`, which does not have the location `location`.
 fn no_location(alloc: Global, path: &str, location: Location) -> Failure<'static>
     ensures { IsNoMisuse result }
 {
@@ -115,9 +115,9 @@ fn no_location(alloc: Global, path: &str, location: Location) -> Failure<'static
     refusal_of(page.finish())
 }
 
-/// Writes the first `most` of the inputs that together take all edges of a graph, as Rust literals.
-/// Returns a note with the number of written inputs and that of all, which is empty if all were
-/// written.
+/// Finds inputs that together take all edges of a graph, and writes the first `most` of these
+/// inputs as Rust literals. Returns a note with the number of written inputs and the number of all
+/// inputs. The note is empty if all inputs were written.
 ///
 /// # Errors
 ///
@@ -141,9 +141,9 @@ pub fn write_inputs<O: Write>(
     Ok(note)
 }
 
-/// Writes the first `most` of the inputs that together take all edges of a graph, as lines of JSON.
-/// Returns a note with the number of written inputs and that of all, which is empty if all were
-/// written.
+/// Finds inputs that together take all edges of a graph, and writes the first `most` of these
+/// inputs as lines of JSON. Returns a note with the number of written inputs and the number of all
+/// inputs. The note is empty if all inputs were written.
 ///
 /// # Errors
 ///
@@ -164,8 +164,8 @@ pub fn write_input_records<O: Write>(
     Ok(note)
 }
 
-/// Returns the note that `most` of `count` inputs were written, which is empty if `count` is not
-/// greater.
+/// Returns the note that only `most` of `count` inputs were written, or an empty text if `count` is
+/// not greater than `most`.
 fn note_of_cut(alloc: Global, most: usize, count: usize) -> Result<String, AllocError> {
     let mut page = Page::new(alloc, false);
     if most < count {
@@ -178,8 +178,8 @@ fn note_of_cut(alloc: Global, most: usize, count: usize) -> Result<String, Alloc
     page.finish()
 }
 
-/// Writes whether the answer `made` equals the bytes `stored` at a path, and returns the outcome.
-/// If they differ, writes the first difference.
+/// Writes whether the answer `made` equals the bytes `stored` at `path`, and returns the outcome.
+/// If the answer differs, writes the first difference.
 ///
 /// # Errors
 ///

@@ -13,7 +13,7 @@ use logos_records::{JsonLines, push_difference_record, push_modes_record, push_s
 use std::alloc::{AllocError, Global};
 use std::io::Write;
 
-/// Two lexers that are compared, and whether the answer is JSON.
+/// Two lexers to compare. `is_json` is `true` if the answer is JSON.
 #[derive(Clone, Copy)]
 pub struct Pair<'m, 's, 't> {
     pub one: NamedLexer<'m, 's>,
@@ -29,9 +29,9 @@ pub struct Judgment {
     pub note: String,
 }
 
-/// Writes the verdict on two lexers, and returns it with the note about their callbacks. If the
-/// lexers differ on an input, writes a shortest input at whose beginning they find a different
-/// match or error, and the match or error of each lexer.
+/// Writes the verdict on two lexers, and returns the verdict with the note about their callbacks.
+/// If the lexers differ on an input, writes a shortest input at whose start the lexers find a
+/// different match or error, and the match or error of each lexer.
 ///
 /// # Errors
 ///
@@ -63,7 +63,8 @@ pub fn compare_with<O: Write>(
     })
 }
 
-/// Returns `Same` if two lexers with this comparison are equivalent, otherwise `Different`.
+/// Returns `Same` if the comparison has shown two lexers to be equivalent, and `Different`
+/// otherwise.
 fn agreement_of(compared: &Compared) -> Agreement
     ensures { result ≡ agreement_of compared.now }
 {
@@ -74,8 +75,8 @@ fn agreement_of(compared: &Compared) -> Agreement
     }
 }
 
-/// Returns the note about callbacks of two lexers that are written differently, which is empty if
-/// there are none.
+/// Returns the note about callbacks that are written differently in two lexers. The note is empty
+/// if there are no such callbacks.
 fn callback_note<'l>(
     alloc: Global,
     one: NamedLexer<'l, '_>,
@@ -86,8 +87,8 @@ fn callback_note<'l>(
     page.finish()
 }
 
-/// Returns the output about a comparison of two lexers, as JSON if it is requested and otherwise as
-/// text.
+/// Returns the output about a comparison of two lexers, as JSON if JSON is requested and as text
+/// otherwise.
 fn comparison_bytes(
     alloc: Global,
     pair: Pair<'_, '_, '_>,
@@ -180,7 +181,7 @@ fn push_compared_record(
 }
 
 /// Appends the JSON object with an input on which two lexers differ, and with the match or error
-/// that each lexer finds at its beginning.
+/// that each lexer finds at the start of the input.
 fn push_findings(
     alloc: Global,
     lines: &mut JsonLines,

@@ -1,5 +1,5 @@
-//! Defines clues about faults beyond their messages. `logos_causes` finds the clues about the
-//! faults of a graph, and `logos_help` adds the help for each fault.
+//! Defines clues: information about faults beyond their messages. `logos_causes` finds the clues
+//! about the faults of a graph, and `logos_help` adds the help for each fault.
 
 ghost use Rattle.std.specs.Prelude.{◌≡◌, [], if◌then◌else◌, MatchOption, false, nat_lt, true};
 ghost use Rattle.logos_report.specs.Views.{fault_of, is_ambiguity, is_explained, follows, sizes_of, starts_in, starts_of, stepped, next_after, next_value};
@@ -11,7 +11,7 @@ use std::alloc::Global;
 /// The clues about the faults of a source.
 #[derive(Debug, Drop)]
 pub struct Clues {
-    /// The clue about each set of ambiguous leaves, in the order of their faults.
+    /// The clues about the sets of ambiguous leaves, in the order of the sets' faults.
     pub meetings: Vec<Meeting>,
     /// The patterns that can examine the bytes before their start.
     pub starts: Vec<Start>,
@@ -23,24 +23,24 @@ pub struct Clues {
 /// The clue about a set of ambiguous leaves.
 #[derive(Debug, Drop)]
 pub struct Meeting {
-    /// The names of the leaves, in the order of their faults.
+    /// The names of the leaves, in the order of the leaves' faults.
     pub names: Vec<String>,
-    /// The text of the note: an input on which the leaves meet, and the priority that would decide
-    /// between them.
+    /// The text of the note: an input that all leaves of the set match, and the priority that would
+    /// decide between them.
     pub note: String,
 }
 
 /// A pattern that can examine the bytes before its start.
 #[derive(Debug, Drop)]
 pub struct Start {
-    /// The name of the leaf.
+    /// The name of the pattern's leaf.
     pub name: String,
-    /// The span of the literal, in bytes of the source.
+    /// The span of the pattern's literal, in bytes of the source.
     pub span: Span,
 }
 
 impl Clues {
-    /// Returns empty clues.
+    /// Returns an empty `Clues`.
     pub fn none(alloc: Global) -> Clues
         ensures { sizes_of result ≡ [] }
     {
@@ -52,21 +52,21 @@ impl Clues {
     }
 }
 
-/// The clues about the faults of a source that remain, and the number of faults of the current set
-/// of ambiguous leaves that were passed.
+/// The clues about the remaining faults of a source, with the position in the current set of
+/// ambiguous leaves.
 #[derive(Clone, Copy)]
 pub struct NextFaults<'c> {
-    /// The clues about the sets of ambiguous leaves of which faults remain.
+    /// The clues about the sets of ambiguous leaves that have remaining faults.
     meetings: &'c [Meeting],
-    /// The number of faults that were passed of the first set in `meetings`.
+    /// The number of passed faults in the first set of `meetings`.
     passed: usize,
     /// The patterns that can examine the bytes before their start.
     starts: &'c [Start],
-    /// The helps for the remaining faults.
+    /// The entries of `Clues::helps` for the remaining faults.
     helps: &'c [Option<&'static str>],
 }
 
-/// A fault of a set of ambiguous leaves.
+/// A fault in a set of ambiguous leaves, with the clue about the set.
 #[derive(Clone, Copy)]
 pub struct Member<'c> {
     pub meeting: &'c Meeting,
@@ -74,7 +74,7 @@ pub struct Member<'c> {
     pub number: usize,
 }
 
-/// Returns the clues at the first fault of a source: all of `clues`, with no fault passed.
+/// Returns all of `clues`, with no fault passed.
 pub fn first_faults(clues: &Clues) -> NextFaults<'_>
     ensures faults { next_value result ≡ record { sizes = sizes_of clues.now; passed = 0 } }
     ensures starts { starts_in result ≡ starts_of clues.now }
@@ -87,15 +87,15 @@ pub fn first_faults(clues: &Clues) -> NextFaults<'_>
     }
 }
 
-/// Returns whether a fault with this code belongs to a set of ambiguous leaves.
+/// Returns whether a fault with the code `code` belongs to a set of ambiguous leaves.
 fn is_ambiguity(code: FaultCode) -> bool
     ensures { result ≡ is_ambiguity code }
 {
     matches!(code, FaultCode::Disambiguation)
 }
 
-/// Returns the clues after a fault of a set of ambiguous leaves. Returns `next` unchanged if no set
-/// with a clue remains.
+/// Returns the clues that remain in `next` after a fault of a set of ambiguous leaves is passed.
+/// Returns `next` unchanged if no set with a clue remains.
 fn stepped(next: NextFaults<'_>) -> NextFaults<'_>
     ensures faults { next_value result
         ≡ stepped (next_value next.entry) (next_value next.entry).sizes }
@@ -118,7 +118,7 @@ fn stepped(next: NextFaults<'_>) -> NextFaults<'_>
 }
 
 impl<'c> NextFaults<'c> {
-    /// Returns the clues after `fault`, which is the next fault.
+    /// Returns the clues that remain after `fault`, the next fault.
     pub fn after(self, fault: &SpannedError) -> NextFaults<'c>
         ensures faults { next_value result
             ≡ next_after (next_value self.entry) (fault_of fault.now) }
@@ -135,13 +135,13 @@ impl<'c> NextFaults<'c> {
         }
     }
 
-    /// Returns the help for the next fault, or `None` if it has none.
+    /// Returns the help for the next fault, or `None` if there is no help.
     pub fn help(self) -> Option<&'static str> {
         *self.helps.first()?
     }
 
-    /// Returns `fault`, which is the next fault, as a member of its set of ambiguous leaves, or
-    /// `None` if it is not of an ambiguous leaf or no clue about a set remains.
+    /// Returns `fault`, the next fault, as a member of its set of ambiguous leaves. Returns `None`
+    /// if the fault is not about an ambiguous leaf or if no clue about a set remains.
     pub fn member(self, fault: &SpannedError) -> Option<Member<'c>>
         ensures { MatchOption result (follows (next_value self.entry) (fault_of fault.now) ≡ false)
             (λ member. (follows (next_value self.entry) (fault_of fault.now)
@@ -156,8 +156,8 @@ impl<'c> NextFaults<'c> {
         }
     }
 
-    /// Returns whether `fault`, which is the next fault, is shown in the report of an earlier fault
-    /// of its set.
+    /// Returns whether `fault`, the next fault, is shown in the report of an earlier fault of its
+    /// set.
     pub(crate) fn follows(self, fault: &SpannedError) -> bool
         ensures { result ≡ follows (next_value self.entry) (fault_of fault.now) }
     {
@@ -167,8 +167,8 @@ impl<'c> NextFaults<'c> {
         }
     }
 
-    /// Returns the patterns that explain a fault with this code: for `NoUniversalStart` the
-    /// patterns that can examine the bytes before their start, otherwise none.
+    /// Returns the patterns that explain a fault with the code `code`: the patterns that can
+    /// examine the bytes before their start if the code is `NoUniversalStart`, and otherwise none.
     pub fn starts(self, code: FaultCode) -> &'c [Start]
         ensures { result.now ≡ (if is_explained code then self.entry.starts.now else []) }
     {
@@ -180,7 +180,8 @@ impl<'c> NextFaults<'c> {
 }
 
 impl Member<'_> {
-    /// Returns the name of the fault's leaf, or an empty text if the set has fewer leaves.
+    /// Returns the name of the fault's leaf, or an empty text if the clue about the set does not
+    /// contain the name.
     pub fn name(&self) -> &str {
         match self.meeting.names.get(self.number) {
             Some(name) => name.as_str(),
@@ -188,7 +189,7 @@ impl Member<'_> {
         }
     }
 
-    /// Returns whether the fault is the last one of its set.
+    /// Returns whether the fault is the last fault of its set.
     pub(crate) fn is_last(&self) -> bool {
         self.number >= self.meeting.names.len().saturating_sub(1)
     }

@@ -1,20 +1,22 @@
-//! The faults of sets of ambiguous leaves. Reports and messages of a fault name the other leaves of
-//! its set with the locations of their faults. Used by `faults` and `logos_messages`.
+//! Finds the faults of a set of ambiguous leaves. A report or a message about one of the faults
+//! names the other leaves of the set, with the locations of their faults. Used by `faults` and
+//! `logos_messages`.
 
 use logos_token::error::{Detail, SpannedError};
 
 /// The faults of a set of ambiguous leaves, and the index of the fault that is shown.
 #[derive(Clone, Copy)]
 pub struct FaultSet<'f> {
-    /// The faults, in the order of the leaves; none if the shown fault is not of an ambiguous leaf.
+    /// The faults of the set, in the order of the leaves. Empty if the shown fault is not about an
+    /// ambiguous leaf.
     faults: &'f [SpannedError],
     /// The index of the shown fault in `faults`.
     own: usize,
 }
 
 impl<'f> FaultSet<'f> {
-    /// Returns the fault at the index `number` of the set without the shown fault, or `None` if
-    /// there are fewer.
+    /// Returns the fault at the index `number` among the faults of the set other than the shown
+    /// fault. Returns `None` if there is no such fault.
     pub(crate) fn other(self, number: usize) -> Option<&'f SpannedError> {
         if number < self.own {
             self.faults.get(number)
@@ -24,8 +26,8 @@ impl<'f> FaultSet<'f> {
     }
 }
 
-/// Returns the set of the fault at the index `number`, which is the shown fault. The set is empty
-/// if the fault is not of an ambiguous leaf, or if there is no such fault.
+/// Returns the set of the fault at the index `number`, with this fault as the shown fault. The set
+/// is empty if the fault is not about an ambiguous leaf, or if `faults` has no such fault.
 pub fn set_at(faults: &[SpannedError], number: usize) -> FaultSet<'_> {
     let from = begin_of_set(faults, number);
     let to = end_of_set(faults, number);
@@ -41,7 +43,8 @@ pub fn set_at(faults: &[SpannedError], number: usize) -> FaultSet<'_> {
     }
 }
 
-/// Returns whether a fault belongs to a set of ambiguous leaves, and is not its first fault.
+/// Returns whether a fault belongs to a set of ambiguous leaves but is not the first fault of the
+/// set.
 fn continues_set(fault: &SpannedError) -> bool {
     match fault.detail {
         Detail::Ambiguous { leaf, first } => leaf != first,
@@ -49,8 +52,8 @@ fn continues_set(fault: &SpannedError) -> bool {
     }
 }
 
-/// Returns whether the fault at the index `number` belongs to a set of ambiguous leaves, and is not
-/// its first fault.
+/// Returns whether `faults` has a fault at the index `number` that belongs to a set of ambiguous
+/// leaves but is not the first fault of the set.
 fn continues_at(faults: &[SpannedError], number: usize) -> bool {
     match faults.get(number) {
         Some(fault) => continues_set(fault),
@@ -58,8 +61,8 @@ fn continues_at(faults: &[SpannedError], number: usize) -> bool {
     }
 }
 
-/// Returns the index of the first fault in the set of the fault `number`, or `number` if this fault
-/// continues no set.
+/// Returns the index of the first fault in the set of the fault at the index `number`. Returns
+/// `number` if this fault does not continue a set.
 fn begin_of_set(faults: &[SpannedError], number: usize) -> usize {
     let mut from = number;
     while from > 0 && continues_at(faults, from) {
@@ -68,8 +71,8 @@ fn begin_of_set(faults: &[SpannedError], number: usize) -> usize {
     from
 }
 
-/// Returns the index after the last fault in the set of the fault `number`, or `number` if this
-/// fault is not of an ambiguous leaf or there is no such fault.
+/// Returns the index after the last fault in the set of the fault at the index `number`. Returns
+/// `number` if this fault is not about an ambiguous leaf, or if `faults` has no such fault.
 fn end_of_set(faults: &[SpannedError], number: usize) -> usize {
     let Some(fault) = faults.get(number) else {
         return number;
@@ -80,8 +83,8 @@ fn end_of_set(faults: &[SpannedError], number: usize) -> usize {
     }
 }
 
-/// Returns the first index, at least `from`, of a fault that does not continue a set, or the number
-/// of faults if there is none.
+/// Returns the index of the first fault at or after `from` that does not continue a set, or the
+/// number of faults if there is no such fault.
 fn end_from(faults: &[SpannedError], from: usize) -> usize {
     for number in from..faults.len() {
         if !continues_set(&faults[number]) {

@@ -1,5 +1,5 @@
-//! Appends faults to a report, with their notes and helps, and counts errors. Called by
-//! `file_report`, `sets` and other crates.
+//! Appends faults to a report with their notes and help texts, and counts the errors among faults.
+//! Called by `file_report`, `sets` and other crates.
 
 ghost use Rattle.std.specs.Prelude.{◌≡◌, ◌≤◌, ◌++◌, ◌==◌, ◌∷◌, [], codes, if◌then◌else◌, length, take};
 ghost use Rattle.logos_report.specs.Views.{count_by, name_of, fault_of, faults_of, is_error, shown_text, code_text, count_text, counted_texts, fault_texts, faults_texts, texts_after, first_line, has_name, head_line, rest_line, rest_text, seen_of, summary_line, all_faults, listed_faults, begins_error, errors_after, first_faults, sizes_of, next_value, Gains, Shows, painted, location_line, starts_in, starts_of};
@@ -18,21 +18,23 @@ use logos_token::error::{Errors, FaultCode, SpannedError};
 /// The maximum number of faults with one code that are shown for a file.
 pub const MOST: usize = 50;
 
-/// A fault, with the clues about it.
+/// A fault with its set of ambiguous leaves and its help.
 #[derive(Clone, Copy)]
 pub struct KnownFault<'f> {
     pub fault: &'f SpannedError,
-    /// The set of the fault, which is empty if the fault is not of an ambiguous leaf.
+    /// The set of the fault. Empty if the fault is not about an ambiguous leaf.
     pub set: FaultSet<'f>,
     /// The help for the fault, if there is one.
     pub help: Option<&'static str>,
 }
 
-/// Appends the faults of a part of a file, in order. For each fault, the appended text has a line
-/// with the name of its code and the first line of its message, and a line with its location in the
-/// file. In a set of ambiguous leaves with a clue the first fault has the line, and all have their
-/// locations under it. Of more than 50 faults with one code the first 50 and the number of the
-/// others are appended.
+/// Appends the faults of a part of a file, in order.
+///
+/// For each fault, the appended text has a line with the name of the fault's code and the first
+/// line of its message, and a line with its location in the file. In a set of ambiguous leaves with
+/// a clue, only the first fault has the line with the code, and the locations of all faults follow
+/// this line. If a code has more than 50 faults, only the first 50 and the number of the remaining
+/// faults are appended.
 pub fn push_faults(page: &mut Page, part: Part<'_, '_>, errors: &Errors, clues: &Clues)
     ensures { Shows (faults_texts page.old.is_colored part.entry.source.now part.entry.offset
         (starts_of clues.now) (sizes_of clues.now) errors.now) page.old page.new }
@@ -45,8 +47,8 @@ pub fn push_faults(page: &mut Page, part: Part<'_, '_>, errors: &Errors, clues: 
     push_all(page, part, listing, first_faults(clues));
 }
 
-/// Appends the faults of a part, `listing.faults`, in order. `first` has the clues at the first of
-/// them.
+/// Appends the faults of a part, `listing.faults`, in order. `first` contains the clues from the
+/// first of these faults on.
 pub(crate) fn push_all(
     page: &mut Page,
     part: Part<'_, '_>,
@@ -66,9 +68,10 @@ pub(crate) fn push_all(
     }
 }
 
-/// Appends `fault`, which is at the index `number` of its part, if fewer than 50 faults with its
-/// code precede it in the file. In place of the 51st fault with a code, appends the number of
-/// faults that are left out. Appends nothing for a later one.
+/// Appends `fault` if fewer than 50 faults with its code precede it in the file. For the 51st fault
+/// with this code, appends the number of faults that are left out instead. For later faults,
+/// appends nothing. `number` is the index of the fault in its part, and `next` contains the clues
+/// from this fault on.
 fn push_counted(
     page: &mut Page,
     part: Part<'_, '_>,
@@ -97,7 +100,7 @@ fn push_counted(
     }
 }
 
-/// Appends a line with the number `count` of faults with a code that are left out, and an empty
+/// Appends a line reporting that `count` faults with the code `code` are not shown, and an empty
 /// line.
 pub fn push_rest(page: &mut Page, code: FaultCode, count: usize)
     ensures { Shows (rest_line page.old.is_colored code count ∷ []) page.old page.new }
@@ -106,7 +109,7 @@ pub fn push_rest(page: &mut Page, code: FaultCode, count: usize)
     page.push("\n");
 }
 
-/// Appends the line with the number `count` of faults with a code that are left out.
+/// Appends the line reporting that `count` faults with the code `code` are not shown.
 fn push_rest_line(page: &mut Page, code: FaultCode, count: usize)
     ensures { Gains (rest_line page.old.is_colored code count) page.old page.new }
 {
@@ -115,8 +118,7 @@ fn push_rest_line(page: &mut Page, code: FaultCode, count: usize)
     page.push("\n");
 }
 
-/// Appends the text after a code in the line about the faults that are left out: their number, and
-/// that they are not shown.
+/// Appends the text after the code in the line reporting that `count` faults are not shown.
 fn push_rest_text(page: &mut Page, count: usize)
     ensures { Gains (painted page.old.is_colored Style.Strong (rest_text count)) page.old page.new }
 {
@@ -127,7 +129,7 @@ fn push_rest_text(page: &mut Page, count: usize)
     page.end();
 }
 
-/// Returns the number of these faults that have this code.
+/// Returns the number of faults in `faults` with the code `code`.
 pub(crate) fn count_code(faults: &[SpannedError], code: FaultCode) -> usize
     ensures { result ≡ count_by (has_name (name_of code)) (faults_of faults.now) }
 {
@@ -138,8 +140,8 @@ pub(crate) fn count_code(faults: &[SpannedError], code: FaultCode) -> usize
     count
 }
 
-/// Returns the number of these faults that have this code, but at most `MOST + 1`. The search
-/// begins at the last fault, so that the time of the calls for all faults of a list together is
+/// Returns the number of faults in `faults` with the code `code`, but at most `MOST + 1`. The
+/// search begins at the last fault, so that the calls for all faults of a list together take time
 /// linear in the number of faults.
 pub(crate) fn seen_of(faults: &[SpannedError], code: FaultCode) -> usize
     ensures { result ≡ seen_of code (faults_of faults.now) }
@@ -156,22 +158,24 @@ pub(crate) fn seen_of(faults: &[SpannedError], code: FaultCode) -> usize
     count
 }
 
-/// Returns whether the code of a fault has the name of `code`.
+/// Returns whether the code of a fault has the same name as `code`.
 fn has_code(fault: &SpannedError, code: FaultCode) -> bool
     ensures { result ≡ has_name (name_of code) (fault_of fault.now) }
 {
     fault.code.name() == code.name()
 }
 
-/// Returns the number of error reports for these faults. `Previous`, an earlier definition to which
-/// an error refers, is not an error, and a set of ambiguous leaves with a clue has one report.
+/// Returns the number of error reports for the faults in `errors`. A fault with the code
+/// `Previous`, an earlier definition to which an error refers, is not an error. A set of ambiguous
+/// leaves with a clue has one report.
 pub fn count_errors(errors: &Errors, clues: &Clues) -> usize
     ensures { result ≡ errors_after (first_faults (sizes_of clues.now)) errors.now }
 {
     count_all(errors.list(), first_faults(clues))
 }
 
-/// Returns the number of error reports for `faults`. `first` has the clues at the first of them.
+/// Returns the number of error reports for `faults`. `first` contains the clues from the first
+/// fault on.
 fn count_all(faults: &[SpannedError], first: NextFaults<'_>) -> usize
     ensures { result ≡ errors_after (next_value first.entry) (faults_of faults.now) }
 {
@@ -184,22 +188,24 @@ fn count_all(faults: &[SpannedError], first: NextFaults<'_>) -> usize
     count
 }
 
-/// Returns whether a report of an error begins with `fault`: it is an error, and is not shown in
-/// the report of an earlier fault of its set. `next` has the clues at `fault`.
+/// Returns whether the report of an error begins with `fault`, that is, whether the fault is an
+/// error that is not shown in the report of an earlier fault of its set. `next` contains the clues
+/// from `fault` on.
 pub fn begins_error(next: NextFaults<'_>, fault: &SpannedError) -> bool
     ensures { result ≡ begins_error (next_value next.entry) (fault_of fault.now) }
 {
     is_error(fault.code) & !next.follows(fault)
 }
 
-/// Returns whether a fault with this code is an error, which all but `Previous` are.
+/// Returns whether a fault with the code `code` is an error: `true` for each code except
+/// `Previous`.
 pub fn is_error(code: FaultCode) -> bool
     ensures { result ≡ is_error code }
 {
     !matches!(code, FaultCode::Previous)
 }
 
-/// Appends the line that ends a report: `count` as the number of errors.
+/// Appends the line that ends a report, with `count` as the number of errors.
 pub fn push_summary(page: &mut Page, count: usize)
     ensures { Gains (summary_line page.old.is_colored count) page.old page.new }
 {
@@ -210,7 +216,8 @@ pub fn push_summary(page: &mut Page, count: usize)
     page.push("\n");
 }
 
-/// Appends the rest of the line that ends a report: `: aborting due to`, and the number of errors.
+/// Appends the rest of the line that ends a report: `: aborting due to`, and `count` as the number
+/// of errors.
 fn push_count(page: &mut Page, count: usize)
     ensures { Gains (count_text count) page.old page.new }
 {
@@ -219,7 +226,7 @@ fn push_count(page: &mut Page, count: usize)
     page.push(errors_text(count));
 }
 
-/// Returns the text after the number of errors.
+/// Returns the text that follows `count`, the number of errors.
 fn errors_text(count: usize) -> &'static str
     ensures { result.now ≡ (if count == 1 then codes " previous error" else codes " previous errors") }
 {
@@ -230,8 +237,8 @@ fn errors_text(count: usize) -> &'static str
     }
 }
 
-/// Appends a fault: the code and the first line of its message, its location and its lines, its
-/// notes and its help, and an empty line.
+/// Appends a fault: its code, the first line of its message, its location, its lines, its notes,
+/// its help, and an empty line.
 pub fn push_fault(page: &mut Page, part: Part<'_, '_>, known: KnownFault<'_>)
     ensures { Shows (fault_texts page.old.is_colored part.entry.source.now part.entry.offset
         (fault_of known.entry.fault.now)) page.old page.new }
@@ -241,8 +248,8 @@ pub fn push_fault(page: &mut Page, part: Part<'_, '_>, known: KnownFault<'_>)
     push_notes(page, ShownFault { part, known, width });
 }
 
-/// Appends the location of a fault, and its lines with carets, but no lines for a source that is
-/// too long. Returns the width of the column of line numbers.
+/// Appends the location of a fault and its lines with carets. Appends only the location if the
+/// fault is a source that is too long. Returns the width of the column of line numbers.
 fn push_span(page: &mut Page, part: Part<'_, '_>, fault: &SpannedError) -> usize
     ensures { Shows (location_line page.old.is_colored part.entry.source.now part.entry.offset
         fault.now.span.from ∷ []) page.old page.new }
@@ -254,8 +261,8 @@ fn push_span(page: &mut Page, part: Part<'_, '_>, fault: &SpannedError) -> usize
     push_marked(page, part, fault, "")
 }
 
-/// Appends the location of a fault, and its lines with carets and `label` after them. Returns the
-/// width of the column of line numbers.
+/// Appends the location of a fault and its lines with carets, with `label` after the carets.
+/// Returns the width of the column of line numbers.
 pub(crate) fn push_marked(
     page: &mut Page,
     part: Part<'_, '_>,
@@ -282,7 +289,7 @@ pub(crate) fn push_head(page: &mut Page, fault: &SpannedError)
     page.push("\n");
 }
 
-/// Appends the separator after the code of a fault, and the first line of its message.
+/// Appends the separator `: ` and `line`, the first line of a fault's message.
 fn push_message(page: &mut Page, line: &str)
     ensures { Gains (painted page.old.is_colored Style.Strong (codes ": " ++ shown_text line.now))
         page.old page.new }
@@ -293,7 +300,7 @@ fn push_message(page: &mut Page, line: &str)
     page.end();
 }
 
-/// Appends the code of a fault as `error[CODE]`, or `note` if a fault with this code is no error.
+/// Appends the code of a fault as `error[CODE]`, or appends `note` if the fault is not an error.
 fn push_code(page: &mut Page, code: FaultCode)
     ensures { Gains (code_text page.old.is_colored code) page.old page.new }
 {
@@ -316,7 +323,7 @@ fn push_error_code(page: &mut Page, code: FaultCode)
     page.end();
 }
 
-/// Returns the style of the carets of a fault with this code.
+/// Returns the style of the carets under a fault with the code `code`.
 fn style_of(code: FaultCode) -> Style {
     if is_error(code) {
         Style::Error
@@ -325,7 +332,7 @@ fn style_of(code: FaultCode) -> Style {
     }
 }
 
-/// Returns a text up to its first LF, without it, or the whole text if it has none.
+/// Returns the part of `text` before its first LF, or the whole text if it has no LF.
 pub fn first_line(text: &str) -> &str
     ensures { result.now ≡ first_line text.now }
 {

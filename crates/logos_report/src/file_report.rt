@@ -12,7 +12,7 @@ use logos_page::Page;
 use logos_token::error::{Errors, FaultCode, SpannedError};
 
 /// The faults of a part of a file, with the clues about them. The part is an enum, or the whole
-/// file if it cannot be read.
+/// file if the file cannot be read.
 #[derive(Drop)]
 pub struct Refused {
     /// The byte offset of the part in the file.
@@ -23,7 +23,7 @@ pub struct Refused {
     pub clues: Clues,
 }
 
-/// The faults of a part of a file, and the parts around it.
+/// The faults of a part of a file, with the parts before and after it.
 #[derive(Clone, Copy)]
 pub struct FaultListing<'f> {
     /// The parts of the file before this part.
@@ -34,8 +34,8 @@ pub struct FaultListing<'f> {
     pub later: &'f [Refused],
 }
 
-/// Appends the faults of these parts of a file, in order, like `push_faults`. At most 50 faults of
-/// one code in all parts are shown.
+/// Appends the faults of the parts `refused` of a file, in order, as `push_faults` does for one
+/// part. Shows at most 50 faults with one code in all parts together.
 pub fn push_refused(page: &mut Page, source: &Source<'_>, refused: &[Refused])
     ensures { Shows (refused_texts page.old.is_colored source.now refused.now) page.old page.new }
 {
@@ -44,7 +44,7 @@ pub fn push_refused(page: &mut Page, source: &Source<'_>, refused: &[Refused])
     }
 }
 
-/// Appends the faults of the part at the index `number`.
+/// Appends the faults of the part at the index `number` of `refused`.
 fn push_part(page: &mut Page, source: &Source<'_>, refused: &[Refused], number: usize)
     requires { number < length refused.now }
     ensures colored { page.new.is_colored ≡ page.old.is_colored }
@@ -67,8 +67,9 @@ fn push_part(page: &mut Page, source: &Source<'_>, refused: &[Refused], number: 
     );
 }
 
-/// Returns the number of faults in the parts `earlier` and in `front` that have this code, but at
-/// most `MOST + 1`. The search begins at the last fault of `front`.
+/// Returns the number of faults with the code `code` in the parts `earlier` and in `front`, but at
+/// most `MOST + 1`. `front` contains the first faults of the next part. The search begins at the
+/// last fault of `front`.
 pub fn seen_in(earlier: &[Refused], front: &[SpannedError], code: FaultCode) -> usize
     ensures { result ≡ seen_of code (all_faults earlier.now ++ faults_of front.now) }
 {
@@ -84,8 +85,8 @@ pub fn seen_in(earlier: &[Refused], front: &[SpannedError], code: FaultCode) -> 
     count
 }
 
-/// Returns the number of faults with this code in a part and in the parts around it, or
-/// `usize::MAX` if there are more.
+/// Returns the number of faults with the code `code` in a part and in the parts before and after
+/// it, but at most `usize::MAX`.
 pub fn count_in(listing: FaultListing<'_>, code: FaultCode) -> usize
     ensures { result ≡ min (count_by (has_name (name_of code)) (listed_faults listing.entry))
         (2 ^ 64 - 1) }
@@ -95,7 +96,7 @@ pub fn count_in(listing: FaultListing<'_>, code: FaultCode) -> usize
         .saturating_add(count_parts(listing.later, code))
 }
 
-/// Returns the number of faults with this code in these parts, or `usize::MAX` if there are more.
+/// Returns the number of faults with the code `code` in `parts`, but at most `usize::MAX`.
 fn count_parts(parts: &[Refused], code: FaultCode) -> usize
     ensures { result ≡ min (count_by (has_name (name_of code)) (all_faults parts.now)) (2 ^ 64 - 1) }
 {

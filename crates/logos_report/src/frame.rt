@@ -29,7 +29,7 @@ struct Frame<'p, 't> {
 /// A span of a part of a file, with the style and the label of the carets under it.
 #[derive(Clone, Copy)]
 pub(crate) struct Marks<'l> {
-    /// The span under which the carets are, in bytes of the part.
+    /// The span to mark with carets, in bytes of the part.
     pub(crate) span: Span,
     /// The style of the carets and of the label.
     pub(crate) style: Style,
@@ -37,9 +37,9 @@ pub(crate) struct Marks<'l> {
     pub(crate) label: &'l str,
 }
 
-/// Appends the location of the start of `span`, the lines at which the span begins and ends, and
-/// carets of this style under the span. Long lines are cut around the span. `span` is in bytes of
-/// the part. Returns the number of digits of the last line's number.
+/// Appends the location of the start of `span`, the lines on which the span begins and ends, and
+/// carets in the style `style` under the span. `span` is in bytes of the part, and long lines are
+/// cut around it. Returns the number of digits of the last line's number.
 pub fn push_frame(page: &mut Page, part: Part<'_, '_>, span: Span, style: Style) -> usize
     ensures { Shows (location_line page.old.is_colored part.entry.source.now part.entry.offset span.from
         ∷ []) page.old page.new }
@@ -52,9 +52,9 @@ pub fn push_frame(page: &mut Page, part: Part<'_, '_>, span: Span, style: Style)
     push_frame_with(page, part, span.from, marks)
 }
 
-/// Appends the location of the byte `offset` of a part of a file, the lines at which the span of
-/// `marks` begins and ends, and carets under the span. Returns the number of digits of the last
-/// line's number.
+/// Appends the location of the byte offset `offset` in a part of a file, the lines on which the
+/// span of `marks` begins and ends, and carets under the span. Returns the number of digits of the
+/// last line's number.
 pub(crate) fn push_frame_with(
     page: &mut Page,
     part: Part<'_, '_>,
@@ -84,7 +84,7 @@ fn frame_of<'p, 't>(part: Part<'p, 't>, marks: Marks<'p>) -> Frame<'p, 't> {
     }
 }
 
-/// Returns the byte `offset` of a part as an offset and a location of the file.
+/// Converts the byte offset `offset` in a part to an offset and a location in the file.
 fn spot_in(part: Part<'_, '_>, offset: usize) -> FileSpot {
     FileSpot {
         offset: offset.saturating_add(part.offset),
@@ -92,8 +92,8 @@ fn spot_in(part: Part<'_, '_>, offset: usize) -> FileSpot {
     }
 }
 
-/// Returns the end of the shown part of the span from `first` to `end`: `end`, or the byte before
-/// it if the span ends at the beginning of a later line than that of `first`.
+/// Returns the end of the shown part of the span from `first` to `end`. This is `end`, or the
+/// preceding byte if the span ends at the beginning of a line after the line of `first`.
 fn last_shown(source: &Source<'_>, first: FileSpot, end: FileSpot) -> FileSpot {
     if (end.location.column > 1) | (lines_after(first, end) == 0) {
         return end;
@@ -105,8 +105,8 @@ fn last_shown(source: &Source<'_>, first: FileSpot, end: FileSpot) -> FileSpot {
     }
 }
 
-/// Appends the line that names the location of the byte `offset` of a part of a file, after `width`
-/// spaces.
+/// Appends the line with the location of the byte offset `offset` in a part of a file, indented by
+/// `width` spaces.
 pub(crate) fn push_offset(page: &mut Page, part: Part<'_, '_>, offset: usize, width: usize)
     ensures { Shows (location_line page.old.is_colored part.entry.source.now part.entry.offset offset
         ∷ []) page.old page.new }
@@ -115,7 +115,7 @@ pub(crate) fn push_offset(page: &mut Page, part: Part<'_, '_>, offset: usize, wi
     push_arrow(page, part.source, part.location(offset));
 }
 
-/// Appends the location of the byte `offset` of a part of a file as `path:line:column`.
+/// Appends the location of the byte offset `offset` in a part of a file as `path:line:column`.
 pub fn push_location(page: &mut Page, part: Part<'_, '_>, offset: usize)
     ensures { Gains (shown_location part.entry.source.now part.entry.offset offset) page.old page.new }
 {
@@ -133,8 +133,7 @@ fn push_line_column(page: &mut Page, source: &Source<'_>, location: Location)
     page.push_number(location.column);
 }
 
-/// Appends the rest of the line that names a location, after its leading spaces: `-->` and the
-/// location.
+/// Appends the line with a location, without its leading spaces: `-->` and the location.
 fn push_arrow(page: &mut Page, source: &Source<'_>, location: Location)
     ensures { Gains (arrow_line page.old.is_colored source.now.path location) page.old page.new }
 {
@@ -144,8 +143,8 @@ fn push_arrow(page: &mut Page, source: &Source<'_>, location: Location)
     page.push("\n");
 }
 
-/// Appends an empty margin, and the only line of a span, or its first and its last line, with
-/// carets under each.
+/// Appends an empty margin and the lines of a span, with carets under each line: the only line, or
+/// the first and the last line.
 fn push_lines(page: &mut Page, frame: Frame<'_, '_>)
     ensures { Shows [] page.old page.new }
 {
@@ -192,7 +191,8 @@ fn push_dots(page: &mut Page, frame: Frame<'_, '_>)
     }
 }
 
-/// Returns the line number of `last` less that of `first`, or 0 if `last` is on an earlier line.
+/// Returns the difference between the line numbers of `last` and `first`, or 0 if `last` is on an
+/// earlier line.
 fn lines_after(first: FileSpot, last: FileSpot) -> usize {
     last.location.line.saturating_sub(first.location.line)
 }
@@ -208,7 +208,7 @@ fn push_last_line(page: &mut Page, frame: Frame<'_, '_>)
     push_carets(page, frame, window, 1, column);
 }
 
-/// Appends the margin of a line without a number: one space more than `width`, and `|`.
+/// Appends the margin of a line without a number: `width + 1` spaces and `|`.
 fn push_margin(page: &mut Page, width: usize)
     ensures { Begins page.old page.new }
 {
@@ -216,7 +216,7 @@ fn push_margin(page: &mut Page, width: usize)
     page.paint(Style::Frame, "|");
 }
 
-/// Appends the line of the file with the number `line`, as far as it is shown, after its number.
+/// Appends `line`, the number of a line, and the shown part of the line.
 fn push_line(page: &mut Page, frame: Frame<'_, '_>, line: usize, window: LineWindow<'_>)
     ensures { Shows [] page.old page.new }
 {
@@ -246,8 +246,8 @@ fn push_line_number(page: &mut Page, line: usize, width: usize)
     page.end();
 }
 
-/// Appends a line with carets under the shown part of a line of the file, in its columns
-/// `from..to`, but at least one caret, and the label of `frame`.
+/// Appends a line with carets and the label of `frame`. The carets mark the shown part of the
+/// columns `from..to` of a line of the file. At least one caret is appended.
 fn push_carets(
     page: &mut Page,
     frame: Frame<'_, '_>,

@@ -1,4 +1,4 @@
-//! Declares the interface to the helps for faults. `logos_help` implements the interface, and
+//! Declares the interface to the help texts for faults. `logos_help` implements the interface, and
 //! `logos_derive` takes any implementation.
 
 ghost use Rattle.std.specs.Prelude.{◌≡◌};
@@ -8,14 +8,15 @@ use crate::clues::Clues;
 use crate::source::Part;
 use logos_token::error::{Errors, Memory};
 
-/// An interface to the helps for faults.
+/// An interface to the help texts for faults.
 pub trait Helps {
-    /// Adds to `clues` the help for each fault in `errors`, which are the faults of a part of a
-    /// file, in order. Reports show the help under the fault.
+    /// Adds the help for each fault in `errors` to `clues`. `errors` contains the faults of a part
+    /// of a file, in order. Reports show the help under its fault.
     ///
     /// # Errors
     ///
-    /// Returns `Memory` if memory runs out. Then some of the helps may have been added.
+    /// Returns `Memory` if memory runs out. In this case, some of the help texts may have been
+    /// added.
     fn add(&self, part: Part<'_, '_>, errors: &Errors, clues: &mut Clues) -> Result<(), Memory>
         ensures { sizes_of clues.new ≡ sizes_of clues.old };
 }

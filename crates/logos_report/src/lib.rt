@@ -1,4 +1,4 @@
-//! Reports faults in the format of rustc: with the line of the file, and carets under the span.
+//! Reports faults in the format of rustc, with the line of the file and carets under the span.
 //! Called by `logos_cli` and `logos_show`.
 
 #![tactic(auto)]

@@ -11,7 +11,7 @@ use crate::source::Part;
 use logos_page::{Page, Style};
 use logos_token::error::SpannedError;
 
-/// A fault whose location is in the report already, and whose notes and help are appended next.
+/// A fault whose location is already in the report. Its notes and its help are appended next.
 #[derive(Clone, Copy)]
 pub(crate) struct ShownFault<'f, 'p, 't> {
     pub(crate) part: Part<'p, 't>,
@@ -31,7 +31,7 @@ pub(crate) fn push_notes(page: &mut Page, shown: ShownFault<'_, '_, '_>)
     page.push("\n");
 }
 
-/// Appends the note about the subpattern whose substitution shifts the byte of a fault, if there is
+/// Appends the note about the subpattern that was substituted before the faulty byte, if there is
 /// such a subpattern.
 fn push_put_in_note(page: &mut Page, shown: ShownFault<'_, '_, '_>)
     ensures { Shows [] page.old page.new }
@@ -54,7 +54,8 @@ pub fn push_put_in(page: &mut Page, part: Part<'_, '_>, put: PutIn<'_>)
     push_location(page, part, put.definition);
 }
 
-/// Appends a line under a fault without its line end: `kind`, such as `help`, and `text`.
+/// Appends a line under a fault, without its line end: the margin, `kind`, such as `help`, and
+/// `text`.
 pub(crate) fn push_note(page: &mut Page, width: usize, kind: &str, text: &str)
     requires { IsInLine kind.now }
     ensures { Begins page.old page.new }
@@ -65,7 +66,7 @@ pub(crate) fn push_note(page: &mut Page, width: usize, kind: &str, text: &str)
     page.push_shown(text);
 }
 
-/// Appends the margin of a line under a fault: one space more than `width`, and `= `.
+/// Appends the margin of a line under a fault: `width + 1` spaces and `= `.
 fn push_note_mark(page: &mut Page, width: usize)
     ensures { Begins page.old page.new }
 {
@@ -74,7 +75,7 @@ fn push_note_mark(page: &mut Page, width: usize)
     page.push(" ");
 }
 
-/// Appends the note with the location of the second span of a fault, if it has one.
+/// Appends the note with the location of the second span of a fault, if there is one.
 fn push_other_location(page: &mut Page, shown: ShownFault<'_, '_, '_>)
     ensures { Shows [] page.old page.new }
 {
@@ -95,9 +96,9 @@ pub(crate) fn push_help(page: &mut Page, shown: ShownFault<'_, '_, '_>)
     }
 }
 
-/// Appends the lines of a fault's message after the first one, without empty lines. For an
-/// ambiguous leaf the first of these lines name the other leaves of its set, and each gets the
-/// location of that leaf's fault.
+/// Appends the nonempty lines of a fault's message after the first line. For an ambiguous leaf, the
+/// first of these lines name the other leaves of the set, each followed by the location of the
+/// leaf's fault.
 fn push_other_lines(page: &mut Page, shown: ShownFault<'_, '_, '_>)
     ensures { Shows [] page.old page.new }
 {
@@ -108,9 +109,9 @@ fn push_other_lines(page: &mut Page, shown: ShownFault<'_, '_, '_>)
     }
 }
 
-/// Appends a line of a fault's message as a note, unless it is empty. `number` counts the lines
-/// after the first one from 0. If the set of the fault has another fault with this number, its
-/// location is appended.
+/// Appends a line of a fault's message as a note, unless the line is empty. `number` is the index
+/// of the line among the lines after the first line. If the set of the fault has another fault at
+/// this index, the location of this other fault is appended to the note.
 fn push_other_line(page: &mut Page, shown: ShownFault<'_, '_, '_>, line: &str, number: usize)
     ensures { Shows [] page.old page.new }
 {
@@ -121,7 +122,7 @@ fn push_other_line(page: &mut Page, shown: ShownFault<'_, '_, '_>, line: &str, n
     push_leaf_location(page, shown.part, shown.known.set.other(number));
 }
 
-/// Appends the location of the fault of another leaf, if there is one, and ends the line.
+/// Appends the location of `other`, the fault of another leaf, if there is one, and a line end.
 fn push_leaf_location(page: &mut Page, part: Part<'_, '_>, other: Option<&SpannedError>)
     ensures { Ends page.old page.new }
 {
@@ -129,7 +130,7 @@ fn push_leaf_location(page: &mut Page, part: Part<'_, '_>, other: Option<&Spanne
     page.push("\n");
 }
 
-/// Appends the location of the fault of another leaf, if there is one.
+/// Appends the location of `other`, the fault of another leaf, if there is one.
 fn push_leaf_at(page: &mut Page, part: Part<'_, '_>, other: Option<&SpannedError>)
     ensures { Continues page.old page.new }
 {

@@ -1,12 +1,13 @@
-//! Finds the character of a literal at which its pattern is faulty, and the subpattern whose
-//! substitution shifts the byte of such a fault. Used by `faults`, `notes` and other crates.
+//! Finds the character of a literal at which the literal's pattern is faulty, and the subpattern
+//! that was substituted before the faulty byte. Used by `faults`, `notes` and other crates.
 
 use crate::source::Part;
 use logos_token::error::{Detail, PatternDetail, SpannedError};
 use logos_token::token::Span;
 
-/// Returns the span for the carets of a fault, in bytes of the part: the character or the escape of
-/// a literal at which its pattern is faulty, or the span of the fault if it has no such character.
+/// Returns the span to mark with carets for a fault, in bytes of the part. This is the character or
+/// the escape at which the pattern of a literal is faulty, or the span of the fault if there is no
+/// such character or escape.
 pub fn caret_span(part: Part<'_, '_>, fault: &SpannedError) -> Span {
     match fault.detail {
         Detail::Pattern(detail) => pattern_span(part, fault.span, detail),
@@ -14,8 +15,8 @@ pub fn caret_span(part: Part<'_, '_>, fault: &SpannedError) -> Span {
     }
 }
 
-/// Returns the span of the character or the escape at which a pattern is faulty, or the span
-/// `literal` if the literal does not spell the byte of the fault.
+/// Returns the span of the character or the escape at which the pattern of a literal is faulty.
+/// Returns `literal`, the span of the literal, if the literal does not spell the faulty byte.
 fn pattern_span(part: Part<'_, '_>, literal: Span, detail: PatternDetail) -> Span {
     let Some(byte) = detail.origin.own else {
         return literal;
@@ -33,12 +34,12 @@ fn pattern_span(part: Part<'_, '_>, literal: Span, detail: PatternDetail) -> Spa
 #[derive(Clone, Copy)]
 pub struct PutIn<'t> {
     pub name: &'t str,
-    /// The byte offset of the subpattern's name in its definition, in the part of the file.
+    /// The offset of the name in the subpattern's definition, in bytes of the part.
     pub definition: usize,
 }
 
-/// Returns the first subpattern that was substituted into the pattern of a fault before the fault's
-/// byte, or `None` if there is none or the fault is not of a pattern.
+/// Returns the first subpattern that was substituted into a faulty pattern before the faulty byte.
+/// Returns `None` if there is no such subpattern, or if the fault is not about a pattern.
 pub fn put_in<'t>(part: Part<'_, 't>, fault: &SpannedError) -> Option<PutIn<'t>> {
     let Detail::Pattern(detail) = fault.detail else {
         return None;
@@ -51,7 +52,7 @@ pub fn put_in<'t>(part: Part<'_, 't>, fault: &SpannedError) -> Option<PutIn<'t>>
 }
 
 /// Returns the span, in bytes of the literal, of the character or the escape that spells the byte
-/// at the index `byte` of the literal's value, or `None` if there is none.
+/// at the index `byte` of the literal's value. Returns `None` if the value has no such byte.
 fn piece_at(literal: &str, byte: usize) -> Option<Span> {
     let (prefix, rest) = literal.split_once('"')?;
     let (inner, _) = rest.rsplit_once('"')?;
@@ -71,32 +72,33 @@ fn piece_at(literal: &str, byte: usize) -> Option<Span> {
 /// escape of the literal.
 #[derive(Clone, Copy)]
 enum LiteralState {
-    /// None: a piece begins with the next character.
+    /// No construct: a piece begins with the next character.
     Plain,
     /// An escape, after its backslash.
     Escape,
     /// An escape, after `\x`.
     Hex,
-    /// An escape, after `\x` and a digit. `is_high` is whether the digit is at least 8.
+    /// An escape, after `\x` and a digit. `is_high` is `true` if the digit is at least 8.
     Digit { is_high: bool },
-    /// An escape, after `\u` and perhaps `{` and digits. The number is the digits' value.
+    /// An escape, after `\u` and perhaps `{` and digits. The number is the value of the digits.
     Number(u32),
     /// A backslash at the end of a line, and the blanks after it.
     Blanks,
 }
 
-/// A reader of a literal, before one of its characters.
+/// The state of a reader of a literal, before one of the literal's characters.
 #[derive(Clone, Copy)]
 struct Reader {
     is_raw: bool,
     is_bytes: bool,
     state: LiteralState,
-    /// The span of the piece so far, in bytes of the literal.
+    /// The span of the current piece up to the next character, in bytes of the literal.
     piece: Span,
 }
 
 /// Returns the span of the piece that spells the byte at the index `byte` of a literal's value, or
-/// `None` if there is none. `inner` is the text between the quotes.
+/// `None` if the value has no such byte. `start` is the reader before `inner`, the text between the
+/// quotes.
 fn find(start: Reader, inner: &str, byte: usize) -> Option<Span> {
     let mut reader = start;
     let mut left = byte;
@@ -112,8 +114,8 @@ fn find(start: Reader, inner: &str, byte: usize) -> Option<Span> {
 }
 
 impl Reader {
-    /// Returns the reader after a character. If a piece ends with the character, also returns the
-    /// number of bytes that the piece spells, otherwise 0.
+    /// Returns the reader after a character, and the number of bytes that the piece ending with
+    /// this character spells, or 0 if no piece ends with the character.
     fn after(self, character: char) -> (Reader, usize) {
         let from = match self.state {
             LiteralState::Plain => self.piece.to,
@@ -135,8 +137,8 @@ impl Reader {
         )
     }
 
-    /// Returns the state after a character. If a piece ends with the character, also returns the
-    /// number of bytes that the piece spells, otherwise 0.
+    /// Returns the state after a character, and the number of bytes that the piece ending with this
+    /// character spells, or 0 if no piece ends with the character.
     fn step(self, character: char) -> (LiteralState, usize) {
         match self.state {
             LiteralState::Plain => self.begin(character),
@@ -157,7 +159,7 @@ impl Reader {
         }
     }
 
-    /// Returns the result of `step` for a character that begins a piece. CR occurs only before LF,
+    /// Returns the result of `step` for a character that begins a piece. CR occurs only before LF
     /// and spells no byte.
     fn begin(self, character: char) -> (LiteralState, usize) {
         if (character == '\\') & !self.is_raw {
@@ -181,8 +183,8 @@ fn escape(character: char) -> (LiteralState, usize) {
     }
 }
 
-/// Returns the result of `Reader::step` for a character after `\u`. The digits so far have the
-/// value `number`.
+/// Returns the result of `Reader::step` for a character after `\u`. `number` is the value of the
+/// digits before the character.
 fn digit(number: u32, character: char) -> (LiteralState, usize) {
     if character == '}' {
         return (LiteralState::Plain, utf8_length(number));
@@ -196,7 +198,7 @@ fn digit(number: u32, character: char) -> (LiteralState, usize) {
     }
 }
 
-/// Returns the length in UTF-8 of the character with this number, in bytes.
+/// Returns the number of bytes in UTF-8 of the character with the code point `number`.
 fn utf8_length(number: u32) -> usize {
     match number {
         0..=0x7F => 1,

@@ -1,5 +1,6 @@
-//! Appends a fault with its clues: one report for each set of ambiguous leaves, and under a fault
-//! the patterns that can examine the bytes before their start. Used by `faults`.
+//! Appends faults with the clues about them. Each set of ambiguous leaves with a clue has one
+//! report, and the patterns that can examine the bytes before their start are shown under the fault
+//! that they explain. Used by `faults`.
 
 ghost use Rattle.std.specs.Prelude.{◌∷◌, ◌++◌, [], map, nat_lt, if◌then◌else◌};
 ghost use Rattle.logos_report.specs.Views.{fault_of, from_of, fault_texts, listed_texts, Shows, location_line, next_value, offsets_of, starts_in};
@@ -15,8 +16,8 @@ use logos_token::error::SpannedError;
 /// The maximum number of patterns that are shown under a fault.
 const MOST: usize = 50;
 
-/// Appends a fault, which is the next one, with the clues about it: as a member of its set of
-/// ambiguous leaves, or with the patterns that explain it.
+/// Appends `known`, the next fault, with the clues about it: as a member of its set of ambiguous
+/// leaves, or with the patterns that explain it. `next` contains the clues from this fault on.
 pub(crate) fn push_listed(
     page: &mut Page,
     part: Part<'_, '_>,
@@ -33,8 +34,8 @@ pub(crate) fn push_listed(
     }
 }
 
-/// Appends a fault of a set of ambiguous leaves, and after the last fault of the set the clue about
-/// the set.
+/// Appends a fault of a set of ambiguous leaves. After the last fault of the set, appends the clue
+/// about the set.
 fn push_member(page: &mut Page, part: Part<'_, '_>, known: KnownFault<'_>, member: Member<'_>)
     ensures { Shows (if nat_lt 0 member.entry.number
         then location_line page.old.is_colored part.entry.source.now part.entry.offset
@@ -46,9 +47,9 @@ fn push_member(page: &mut Page, part: Part<'_, '_>, known: KnownFault<'_>, membe
     push_end(page, ShownFault { part, known, width }, member);
 }
 
-/// Appends the location and the lines of a fault of a set of ambiguous leaves, after the code and
-/// the message if the fault is the first of its set. Returns the width of the column of line
-/// numbers.
+/// Appends the location and the lines of a fault of a set of ambiguous leaves. If the fault is the
+/// first of its set, appends its code and the first line of its message before its location.
+/// Returns the width of the column of line numbers.
 fn push_location_of(
     page: &mut Page,
     part: Part<'_, '_>,
@@ -68,8 +69,8 @@ fn push_location_of(
     }
 }
 
-/// Appends the code and the message of a fault, and its location and lines, with `label` after the
-/// carets. Returns the width of the column of line numbers.
+/// Appends the code of a fault, the first line of its message, its location and its lines, with
+/// `label` after the carets. Returns the width of the column of line numbers.
 fn push_begin(page: &mut Page, part: Part<'_, '_>, fault: &SpannedError, label: &str) -> usize
     ensures { Shows (fault_texts page.old.is_colored part.entry.source.now part.entry.offset
         (fault_of fault.now)) page.old page.new }
@@ -78,7 +79,8 @@ fn push_begin(page: &mut Page, part: Part<'_, '_>, fault: &SpannedError, label: 
     push_marked(page, part, fault, label)
 }
 
-/// Appends the clue about a set of ambiguous leaves, if `member` is the last fault of the set.
+/// Appends the clue about a set of ambiguous leaves if `member` is the last fault of the set.
+/// Otherwise appends nothing.
 fn push_end(page: &mut Page, shown: ShownFault<'_, '_, '_>, member: Member<'_>)
     ensures { Shows [] page.old page.new }
 {
@@ -97,8 +99,8 @@ fn push_meeting(page: &mut Page, shown: ShownFault<'_, '_, '_>, meeting: &Meetin
     page.push("\n");
 }
 
-/// Appends a fault that is not of a set with a clue: with the patterns `starts` that explain it, or
-/// with the lines of its span if `starts` is empty.
+/// Appends a fault that does not belong to a set with a clue. Shows the patterns `starts`, which
+/// explain the fault, or the lines of the fault's span if `starts` is empty.
 fn push_single(page: &mut Page, part: Part<'_, '_>, known: KnownFault<'_>, starts: &[Start])
     ensures { Shows (fault_texts page.old.is_colored part.entry.source.now part.entry.offset
         (fault_of known.entry.fault.now)
@@ -112,8 +114,8 @@ fn push_single(page: &mut Page, part: Part<'_, '_>, known: KnownFault<'_>, start
     }
 }
 
-/// Appends a fault of a whole enum, with at most 50 of the patterns `starts` that explain it
-/// instead of the lines of the enum.
+/// Appends a fault about a whole enum. Instead of the lines of the enum, shows at most 50 of the
+/// patterns `starts`, which explain the fault.
 fn push_explained(page: &mut Page, part: Part<'_, '_>, known: KnownFault<'_>, starts: &[Start])
     ensures { Shows (fault_texts page.old.is_colored part.entry.source.now part.entry.offset
         (fault_of known.entry.fault.now)
@@ -127,7 +129,8 @@ fn push_explained(page: &mut Page, part: Part<'_, '_>, known: KnownFault<'_>, st
     push_notes(page, ShownFault { part, known, width });
 }
 
-/// Appends the location and the lines of each of these patterns, with carets and a label.
+/// Appends the location and the lines of each pattern in `starts`, with carets and the name of the
+/// pattern's leaf.
 fn push_starts(page: &mut Page, part: Part<'_, '_>, starts: &[Start])
     ensures { Shows (map (location_line page.old.is_colored part.entry.source.now part.entry.offset)
         (map from_of starts.now)) page.old page.new }

@@ -1,5 +1,5 @@
-//! Files and their parts, with the locations of their offsets. Used by all modules that report
-//! faults or warnings.
+//! Files and parts of files, with the locations of byte offsets in them. Used by all modules that
+//! report faults or warnings.
 
 ghost use Rattle.std.specs.Prelude.{◌≡◌, ◌≤◌, ◌⊎◌, IfOk, MatchOption, length};
 ghost use Rattle.logos_report.specs.Views.{IsLineOf, IsLongLine, IsNoLine, location_at, in_file};
@@ -9,7 +9,7 @@ use logos_token::token::Span;
 use std::alloc::{AllocError, Global};
 use std::marker::Model;
 
-/// A part of a file. Offsets in it are bytes from its beginning.
+/// A part of a file. Offsets in the part count bytes from its beginning.
 #[derive(Clone, Copy)]
 pub struct Part<'p, 't> {
     /// The whole file.
@@ -19,7 +19,7 @@ pub struct Part<'p, 't> {
 }
 
 impl Part<'_, '_> {
-    /// Returns the line and the column in the file of the byte `offset` of the part.
+    /// Returns the line and the column in the file of the byte offset `offset` in the part.
     pub fn location(self, offset: usize) -> Location
         ensures { result ≡ location_at self.entry.source.now.text
             (in_file self.entry.offset offset) }
@@ -29,16 +29,16 @@ impl Part<'_, '_> {
 }
 
 impl<'t> Part<'_, 't> {
-    /// Returns the text at a span in bytes of the part, or an empty text if the file has no such
-    /// span.
+    /// Returns the text at `span`, a span in bytes of the part, or an empty text if the file has no
+    /// such span.
     pub fn text_at(self, span: Span) -> &'t str {
         let from = span.from.saturating_add(self.offset);
         let to = span.to.saturating_add(self.offset);
         self.source.text().get(from..to).unwrap_or("")
     }
 
-    /// Returns the text of the file from the byte `offset` of the part to the end of the file, or
-    /// an empty text if the file has no such offset.
+    /// Returns the text of the file from the byte offset `offset` in the part to the end of the
+    /// file, or an empty text if the file has no such offset.
     pub fn text_from(self, offset: usize) -> &'t str {
         let from = offset.saturating_add(self.offset);
         self.source.text().get(from..).unwrap_or("")
@@ -65,7 +65,7 @@ impl<'t> Model for Source<'t> {
 }
 
 impl<'t> Source<'t> {
-    /// Returns a file with this path and text.
+    /// Returns a file with the path `path` and the text `text`.
     ///
     /// # Errors
     ///

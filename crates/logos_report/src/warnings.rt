@@ -1,5 +1,5 @@
-//! Warnings: probable mistakes that are not faults. Used by `logos_file_warnings`, `logos_messages`
-//! and the crates that find warnings.
+//! Defines warnings about probable mistakes that are not faults, and appends warnings to a report.
+//! Used by `logos_file_warnings`, `logos_messages` and the crates that find warnings.
 
 ghost use Rattle.std.specs.Prelude.{◌≡◌, ◌++◌, ◌∷◌, [], codes, string_bytes};
 ghost use Rattle.logos_report.specs.Views.{IsInLine, shown_text, Gains, Shows, painted, location_line, all_texts, left_out_line, left_out_texts, shown_of, warning_head, warning_texts, warnings_texts};
@@ -13,10 +13,10 @@ use logos_token::token::Span;
 /// The maximum number of warnings that are shown for a part of a file.
 const MOST: usize = 50;
 
-/// A probable mistake, which is not a fault, in a part of a file.
+/// A warning about a probable mistake in a part of a file. The mistake is not a fault.
 #[derive(Debug, Drop)]
 pub struct Warning {
-    /// The probable mistake, on one line.
+    /// The message about the probable mistake, on one line.
     pub message: String,
     /// The span of the mistake, in bytes of the part.
     pub span: Span,
@@ -28,9 +28,9 @@ pub struct Warning {
     pub also: Option<Span>,
 }
 
-/// Appends the first 50 warnings of a part of a file, or all if there are fewer, in order, and the
-/// number of warnings that are left out, unless it is 0. For each warning, the appended text has a
-/// line with its message and a line with its location.
+/// Appends the first 50 warnings of a part of a file, or all if there are fewer, in order. If there
+/// are more, appends the number of warnings that are left out. For each warning, the appended text
+/// has a line with its message and a line with its location.
 pub fn push_warnings(page: &mut Page, part: Part<'_, '_>, warnings: &[Warning])
     ensures { Shows (warnings_texts page.old.is_colored part.entry.source.now part.entry.offset
         warnings.now) page.old page.new }
@@ -50,7 +50,7 @@ pub fn first_of(warnings: &[Warning]) -> &[Warning]
     }
 }
 
-/// Appends each of these warnings, in order.
+/// Appends each warning in `warnings`, in order.
 fn push_all(page: &mut Page, part: Part<'_, '_>, warnings: &[Warning])
     ensures { Shows (all_texts page.old.is_colored part.entry.source.now part.entry.offset
         warnings.now) page.old page.new }
@@ -60,8 +60,8 @@ fn push_all(page: &mut Page, part: Part<'_, '_>, warnings: &[Warning])
     }
 }
 
-/// Appends a line with the number `count` of warnings that are left out, and an empty line, unless
-/// the number is 0.
+/// Appends a line reporting that `count` warnings are not shown, and an empty line. Appends nothing
+/// if `count` is 0.
 fn push_left_out(page: &mut Page, count: usize)
     ensures { Shows (left_out_texts page.old.is_colored count) page.old page.new }
 {
@@ -71,7 +71,7 @@ fn push_left_out(page: &mut Page, count: usize)
     }
 }
 
-/// Appends the line with the number `count` of warnings that are left out.
+/// Appends the line reporting that `count` warnings are not shown.
 fn push_left_out_line(page: &mut Page, count: usize)
     ensures { Gains (left_out_line page.old.is_colored count) page.old page.new }
 {
@@ -101,7 +101,7 @@ fn push_head(page: &mut Page, message: &str)
     page.push("\n");
 }
 
-/// Appends the separator after the word `warning`, and a message.
+/// Appends the separator `: ` and the message of a warning.
 fn push_message(page: &mut Page, message: &str)
     ensures { Gains (painted page.old.is_colored Style.Strong (codes ": " ++ shown_text message.now))
         page.old page.new }
@@ -112,8 +112,8 @@ fn push_message(page: &mut Page, message: &str)
     page.end();
 }
 
-/// Appends the notes and the help under a warning, and an empty line. `width` is that of the column
-/// of line numbers.
+/// Appends the notes and the help under a warning, and an empty line. `width` is the width of the
+/// column of line numbers.
 fn push_notes(page: &mut Page, part: Part<'_, '_>, width: usize, warning: &Warning)
     ensures { Shows [] page.old page.new }
 {
@@ -141,7 +141,7 @@ fn push_help(page: &mut Page, width: usize, help: Option<&str>)
     }
 }
 
-/// Appends the line with a note or a help. `kind` is the word before its text.
+/// Appends a line with a note or a help. `kind` is the word before `text`.
 fn push_line(page: &mut Page, width: usize, kind: &str, text: &str)
     requires { IsInLine kind.now }
     ensures { Shows [] page.old page.new }

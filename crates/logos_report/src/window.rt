@@ -1,5 +1,5 @@
-//! The shown part of a line: all of it, or about 140 columns around a location in it. Only bytes
-//! near the location are examined, however long the line is. Used by `frame`.
+//! The shown part of a line: the whole line, or about 140 columns around a location in it. Only
+//! bytes near the location are examined, however long the line is. Used by `frame`.
 
 ghost use Rattle.std.specs.Prelude.{◌≡◌};
 ghost use Rattle.logos_report.specs.Imports.{Continues};
@@ -10,7 +10,7 @@ use logos_page::{Page, columns_of};
 
 /// The width of the shown part of a line, in columns.
 const COLUMNS: usize = 140;
-/// The maximum number of columns before the first caret of which none is left out.
+/// The maximum width, in columns, of a text before the first caret that is shown whole.
 const NEAR: usize = 100;
 /// The number of columns before the first caret that are shown if earlier columns are left out.
 const FRONT: usize = 60;
@@ -26,7 +26,7 @@ pub(crate) struct FileSpot {
     pub(crate) location: Location,
 }
 
-/// The text near a location in a line, and the number of its leading characters that are left out.
+/// The text of a line near a location, with the number of its leading characters that are left out.
 #[derive(Clone, Copy)]
 pub(crate) struct LineWindow<'t> {
     /// The text near the location.
@@ -39,7 +39,7 @@ pub(crate) struct LineWindow<'t> {
     continues: bool,
 }
 
-/// Returns the shown part of the line at the location `spot` of a file.
+/// Returns the shown part of the line at the location `spot` in a file.
 pub(crate) fn window_at<'t>(source: &Source<'t>, spot: FileSpot) -> LineWindow<'t> {
     let text = source.text();
     let bytes = text.as_bytes();
@@ -63,8 +63,8 @@ pub(crate) fn window_at<'t>(source: &Source<'t>, spot: FileSpot) -> LineWindow<'
     }
 }
 
-/// Returns the start of the text near an offset: the start of its line, or the offset `FAR` bytes
-/// before it if the line begins earlier.
+/// Returns the start of the text near `offset`: the start of the line, or the offset `FAR` bytes
+/// before `offset` if the line begins earlier.
 fn near_start(bytes: &[u8], offset: usize) -> usize {
     let least = offset.saturating_sub(FAR);
     let mut from = offset.min(bytes.len());
@@ -77,7 +77,7 @@ fn near_start(bytes: &[u8], offset: usize) -> usize {
     from
 }
 
-/// Returns the end of the text that begins at `from`: the end of its line, or the offset `last` if
+/// Returns the end of a text that begins at `from`: the end of the line, or the offset `last` if
 /// the line ends later.
 fn near_end(bytes: &[u8], from: usize, last: usize) -> usize {
     let mut to = from;
@@ -90,7 +90,7 @@ fn near_end(bytes: &[u8], from: usize, last: usize) -> usize {
     to
 }
 
-/// Returns whether a line ends at the offset `at`: at LF, at CRLF, or at the end of the text.
+/// Returns whether a line ends at the offset `at`: at LF, at CR LF, or at the end of the text.
 fn ends_at(bytes: &[u8], at: usize) -> bool {
     match bytes.get(at) {
         Some(b'\n') => true,
@@ -100,8 +100,8 @@ fn ends_at(bytes: &[u8], at: usize) -> bool {
     }
 }
 
-/// Returns the first offset, at least `offset`, at which a character begins or the text ends, or
-/// `offset` if it is past the end.
+/// Returns the first offset at or after `offset` at which a character begins or the text ends.
+/// Returns `offset` if it is past the end of the text.
 fn character_at(text: &str, offset: usize) -> usize {
     let mut at = offset;
     while at < text.len() {
@@ -113,8 +113,8 @@ fn character_at(text: &str, offset: usize) -> usize {
     at
 }
 
-/// Returns the number of leading characters that a window leaves out, if `before` characters of its
-/// text are before the location.
+/// Returns the number of leading characters to leave out of a window whose text has `before`
+/// characters before the location.
 fn skipped_of(window: LineWindow<'_>, before: usize) -> usize {
     let width = columns(window.text, 0, before);
     let is_whole = (window.front == 0) & !window.continues;
@@ -126,8 +126,8 @@ fn skipped_of(window: LineWindow<'_>, before: usize) -> usize {
     }
 }
 
-/// Returns the width in columns of `count` characters of a text, or of all there are if fewer, from
-/// the character at the index `from` on.
+/// Returns the width in columns of at most `count` characters of a text, starting with the
+/// character at the index `from`.
 fn columns(text: &str, from: usize, count: usize) -> usize {
     let mut total: usize = 0;
     for character in text.chars().skip(from).take(count) {
@@ -137,7 +137,7 @@ fn columns(text: &str, from: usize, count: usize) -> usize {
 }
 
 /// Returns the least number of leading characters of a text that take at least `columns` columns,
-/// or the number of all characters.
+/// or the number of all characters if the text takes fewer columns.
 fn characters_in(text: &str, columns: usize) -> usize {
     let mut total: usize = 0;
     let mut count: usize = 0;
@@ -151,7 +151,7 @@ fn characters_in(text: &str, columns: usize) -> usize {
     count
 }
 
-/// Appends three dots if `is_cut` holds, which means that characters of a line are left out.
+/// Appends three dots if `is_cut` is `true`, that is, if characters of a line are left out.
 fn push_cut(page: &mut Page, is_cut: bool)
     ensures { Continues page.old page.new }
 {
@@ -171,7 +171,7 @@ impl LineWindow<'_> {
         (self.skipped > 0) | (self.front > 0)
     }
 
-    /// Appends the shown part of the line, with dots where it is cut.
+    /// Appends the shown part of the line, with three dots at each end at which the line is cut.
     pub(crate) fn push(self, page: &mut Page)
         ensures { Continues page.old page.new }
     {
@@ -210,7 +210,7 @@ impl LineWindow<'_> {
         columns(self.text, self.skipped, shown).saturating_add(dots)
     }
 
-    /// Returns the number of shown columns for the columns `from..to` of the line.
+    /// Returns the width in columns of the shown part of the columns `from..to` of the line.
     pub(crate) fn columns_between(self, from: usize, to: usize) -> usize {
         let first = self.characters_before(from).max(self.skipped);
         let count = self.characters_before(to).saturating_sub(first);

@@ -7,8 +7,8 @@ use logos_strip::helpers::{is_comma, is_macro_entry};
 use logos_token::token::{Delimiter, TokenTree, Tokens};
 use logos_token::util::after_word;
 
-/// Returns whether one of the attributes at the front of `tokens` is a `derive` with the entry
-/// `Logos`, `logos::Logos` or `::logos::Logos`, which `strip_attributes` removes.
+/// Returns whether one of the attributes at the front of `tokens` is a `derive` with an entry that
+/// `strip_attributes` removes: `Logos`, `logos::Logos` or `::logos::Logos`.
 pub(crate) fn derives(tokens: Tokens<'_, '_>) -> bool
     ensures { result ≡ derives (tokens_of tokens.entry) }
 {
@@ -22,8 +22,8 @@ pub(crate) fn derives(tokens: Tokens<'_, '_>) -> bool
     false
 }
 
-/// Returns whether the first attribute derives `Logos`, and the tokens after the attribute. Returns
-/// `None` if the run does not begin with an attribute.
+/// Returns the tokens after the first attribute, with a `bool` that is `true` if the attribute
+/// derives `Logos`. Returns `None` if the run does not begin with an attribute.
 fn first_attribute<'t, 's>(tokens: Tokens<'t, 's>) -> Option<(bool, Tokens<'t, 's>)>
     ensures { MatchOption result (derives (tokens_of tokens.entry) ≡ false)
         (λ read. (derives (tokens_of tokens.entry) ≡ (read.0 || derives (tokens_of read.1)))
@@ -36,8 +36,8 @@ fn first_attribute<'t, 's>(tokens: Tokens<'t, 's>) -> Option<(bool, Tokens<'t, '
     }
 }
 
-/// Returns whether the brackets after the `#` of an attribute derive `Logos`, and the tokens after
-/// the brackets. Returns `None` if the run does not begin with brackets.
+/// Returns the tokens after the brackets of an attribute, with a `bool` that is `true` if the
+/// brackets derive `Logos`. Returns `None` if the run does not begin with brackets.
 fn bracketed<'t, 's>(tokens: Tokens<'t, 's>) -> Option<(bool, Tokens<'t, 's>)>
     ensures { MatchOption result (derives_after (tokens_of tokens.entry) ≡ false)
         (λ read. (derives_after (tokens_of tokens.entry)
@@ -52,8 +52,8 @@ fn bracketed<'t, 's>(tokens: Tokens<'t, 's>) -> Option<(bool, Tokens<'t, 's>)>
     }
 }
 
-/// Returns whether `tokens`, in the brackets of an attribute, are a `derive` with an entry that
-/// names the derive macro.
+/// Returns whether an attribute is a `derive` with an entry that names the derive macro. `tokens`
+/// are the tokens between the brackets of the attribute.
 fn derives_in(tokens: Tokens<'_, '_>) -> bool
     ensures { result ≡ derives_in (tokens_of tokens.entry) }
 {
@@ -75,7 +75,8 @@ fn begins_list(tokens: Tokens<'_, '_>) -> bool
     }
 }
 
-/// Returns whether one of the entries of a `derive` names the derive macro, with or without a path.
+/// Returns whether one of the entries `tokens` of a `derive` names the derive macro, with or
+/// without a path.
 fn lists_macro(tokens: Tokens<'_, '_>) -> bool
     ensures { result ≡ lists_macro true (tokens_of tokens.entry) }
 {

@@ -13,7 +13,7 @@ use logos_token::error::Memory;
 use logos_token::token::{Span, TokenStream, Tokens, tokenize};
 use std::alloc::Global;
 
-/// An enum of a file, as it was found.
+/// An enum that was found in a file.
 #[derive(Clone, Copy, Debug)]
 pub struct FoundEnum {
     /// The span of the enum in the file, in bytes: from its first attribute, its visibility or
@@ -25,8 +25,8 @@ pub struct FoundEnum {
     /// Whether one of the `derive` attributes at the front of the enum has the entry `Logos`,
     /// `logos::Logos` or `::logos::Logos`.
     pub derives: bool,
-    /// Whether one of the `derive` attributes has the entry `Logos` without a path, for which the
-    /// file imports the macro.
+    /// Whether one of the `derive` attributes has the entry `Logos` without a path. For such an
+    /// entry, the file imports the macro.
     pub by_name: bool,
 }
 
@@ -39,8 +39,8 @@ pub struct ReadFile<'s> {
     pub found: Vec<FoundEnum>,
 }
 
-/// Returns the enums of a Rust file, in order: those at its top level and those in the bodies of
-/// modules, at any depth. Does not search the bodies of functions and the arguments of macros.
+/// Returns the enums at the top level of a Rust file and in the bodies of its modules, at any
+/// depth, in order. Does not search the bodies of functions or the arguments of macros.
 ///
 /// # Errors
 ///
@@ -60,7 +60,7 @@ pub fn enums_in(alloc: Global, text: &str) -> Result<Vec<FoundEnum>, Refusal>
     }
 }
 
-/// Returns the tokens of the file, and the enums that `enums_in` returns.
+/// Returns the tokens of a file, and the enums that `enums_in` returns for the file.
 ///
 /// # Errors
 ///

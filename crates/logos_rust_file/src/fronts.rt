@@ -7,7 +7,8 @@ ghost use Rattle.logos_rust_file.specs.Views.{Token, also, count_of, tokens_of, 
 use logos_enum::{is_outer, skip_generics, skip_visibility};
 use logos_token::token::{Delimiter, Span, TokenTree, Tokens};
 
-/// The first item of a run, as it is found after its attributes and its visibility.
+/// The kind of the first item of a run, as read from the tokens after its attributes and its
+/// visibility.
 #[derive(Clone, Copy)]
 pub(crate) enum ItemKind<'t, 's> {
     /// No item: no tokens are left.
@@ -77,7 +78,7 @@ fn skip_attributes<'t, 's>(tokens: Tokens<'t, 's>) -> Tokens<'t, 's>
     rest
 }
 
-/// Returns the kind of an item from the tokens after its visibility.
+/// Returns the kind of an item. `tokens` begin after the visibility of the item.
 fn kind_at<'t, 's>(tokens: Tokens<'t, 's>) -> ItemKind<'t, 's>
     ensures { kind_value result ≡ kind_at (tokens_of tokens.entry) }
 {
@@ -94,8 +95,8 @@ fn kind_at<'t, 's>(tokens: Tokens<'t, 's>) -> ItemKind<'t, 's>
     }
 }
 
-/// Returns a module from the tokens after `mod`, if they begin with a name and braces. Otherwise
-/// the rest is `tokens`.
+/// Returns a module if `tokens`, the tokens after `mod`, begin with a name and braces. Otherwise
+/// returns `Other` with the rest `tokens`.
 fn module_at<'t, 's>(tokens: Tokens<'t, 's>) -> ItemKind<'t, 's>
     ensures { kind_value result ≡ module_in (tokens_of tokens.entry) }
 {
@@ -105,8 +106,8 @@ fn module_at<'t, 's>(tokens: Tokens<'t, 's>) -> ItemKind<'t, 's>
     }
 }
 
-/// Returns a module from `after`, the tokens after its name, if they begin with braces. Otherwise
-/// the rest is `tokens`, which begin with the name.
+/// Returns a module if `after`, the tokens after the name of the module, begin with braces.
+/// Otherwise returns `Other` with the rest `tokens`, which begin with the name.
 fn braced_module<'t, 's>(tokens: Tokens<'t, 's>, after: Tokens<'t, 's>) -> ItemKind<'t, 's>
     ensures { kind_value result ≡ braced_in (tokens_of tokens.entry) (tokens_of after.entry) }
 {
@@ -119,8 +120,8 @@ fn braced_module<'t, 's>(tokens: Tokens<'t, 's>, after: Tokens<'t, 's>) -> ItemK
     }
 }
 
-/// Returns the tokens after the name and the generic parameters of an enum, which can contain
-/// braces. Returns `tokens` if they do not begin with a name.
+/// Returns the tokens after the name and the generic parameters of an enum. The generic parameters
+/// can contain braces. Returns `tokens` if they do not begin with a name.
 fn skip_head<'t, 's>(tokens: Tokens<'t, 's>) -> Tokens<'t, 's>
     ensures { tokens_of result ≡ after_head (tokens_of tokens.entry) }
 {
@@ -144,7 +145,7 @@ fn skip_body<'t, 's>(tokens: Tokens<'t, 's>) -> Tokens<'t, 's>
     rest
 }
 
-/// Returns whether `tree` ends an item: braces or `;`.
+/// Returns whether `tree` can end an item, that is, whether it is a group in braces or `;`.
 fn ends_body(tree: TokenTree<'_, '_>) -> bool
     ensures { result ≡ ends_body (tree_of tree.entry) }
 {
@@ -155,15 +156,15 @@ fn ends_body(tree: TokenTree<'_, '_>) -> bool
     }
 }
 
-/// Returns the span of the name of an enum with the tokens `item`: of the identifier after `enum`.
-/// Returns `None` if there is no such identifier.
+/// Returns the span of the name of an enum, the identifier after `enum`, or `None` if there is no
+/// such identifier. `item` are the tokens of the enum.
 pub(crate) fn name_of(item: Tokens<'_, '_>) -> Option<Span>
     ensures { result ≡ name_of (tokens_of item.entry) }
 {
     name_at(skip_visibility(skip_attributes(item)).rest())
 }
 
-/// Returns the span of the first token, or `None` if it is not an identifier.
+/// Returns the span of the first token, or `None` if the first token is not an identifier.
 fn name_at(tokens: Tokens<'_, '_>) -> Option<Span>
     ensures { result ≡ name_at (tokens_of tokens.entry) }
 {

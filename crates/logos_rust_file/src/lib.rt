@@ -1,5 +1,5 @@
-//! Finds the enums of a Rust file, and replaces parts of a file. `logos_expand` and `logos_show`
-//! use it.
+//! Finds the enums of a Rust file, and replaces parts of a file. Used by `logos_expand` and
+//! `logos_show`.
 
 #![tactic(auto)]
 

@@ -5,7 +5,7 @@ use logos_strip::helpers::{is_comma, is_macro_entry};
 use logos_token::token::{Delimiter, TokenTree, Tokens};
 use logos_token::util::after_word;
 
-/// Returns whether a `derive` before an enum has the entry `Logos` without a path.
+/// Returns whether a `derive` at the front of the enum `item` has the entry `Logos` without a path.
 pub(crate) fn derives_by_name(item: Tokens<'_, '_>) -> bool {
     let mut rest = item;
     for _ in 0..item.count() {
@@ -28,8 +28,8 @@ fn begins_list(tokens: Tokens<'_, '_>) -> bool {
     }
 }
 
-/// Returns whether `inside`, the brackets of an attribute, are a `derive` with the entry `Logos`
-/// without a path.
+/// Returns whether an attribute is a `derive` with the entry `Logos` without a path. `inside` are
+/// the tokens between the brackets of the attribute.
 fn lists_name(inside: Tokens<'_, '_>) -> bool {
     let Some(rest) = after_word("derive", inside) else {
         return false;

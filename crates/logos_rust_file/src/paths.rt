@@ -1,5 +1,5 @@
-//! The paths of enums in a file. `logos_show` compares the paths with the name of the enum that it
-//! shows.
+//! Determines the paths of enums in a file. `logos_show` compares the paths with the name of the
+//! enum to show.
 
 ghost use Rattle.std.specs.Prelude.{◌↔◌, IfOk, IsTrue, string_bytes};
 ghost use Rattle.logos_rust_file.specs.Views.{EndsWithPath, IsNameAt, IsPathOf};
@@ -18,9 +18,9 @@ struct Word<'t> {
     rest: &'t str,
 }
 
-/// Returns the path of an enum in the file with this text, such as `lexers::Token`: the names of
-/// the modules that are open where the enum begins, and the enum's own name, which is empty if it
-/// has none.
+/// Returns the path of an enum in the file with the text `text`, such as `lexers::Token`. The path
+/// consists of the names of the modules that are open where the enum begins, and of the enum's own
+/// name, which is empty if the enum has none.
 ///
 /// # Errors
 ///
@@ -44,7 +44,7 @@ fn before(text: &str, found: FoundEnum) -> &str {
     }
 }
 
-/// Returns the name of an enum, or an empty text if it has none.
+/// Returns the name of an enum, or an empty text if the enum has no name.
 fn name_in(text: &str, found: FoundEnum) -> &str
     ensures { IsNameAt text.now found.name result.now }
 {
@@ -79,8 +79,8 @@ fn push_level(path: &mut String, level: &str) -> Result<(), Memory> {
     Ok(())
 }
 
-/// Returns the modules whose braces are open at the end of a text, in order, and an empty text for
-/// each open brace that does not begin a module.
+/// Returns the names of the modules whose braces are open at the end of a text, in order. An empty
+/// text represents each open brace that does not begin a module.
 fn levels_of<'t>(alloc: Global, text: &'t str) -> Result<Vec<&'t str>, Memory> {
     let mut levels = Vec::new(alloc);
     let mut rest = text;
@@ -108,8 +108,8 @@ fn first_word<'t>(text: &'t str) -> Option<Word<'t>> {
     Some(Word { kind, text, rest })
 }
 
-/// Returns the last two lexemes up to `word`, where `words` are the last two before it. Gaps and
-/// documentation do not count.
+/// Returns the last two lexemes up to and including `word`. `words` contains the last two lexemes
+/// before `word`. Gaps and documentation do not count.
 fn words_after<'t>(words: (&'t str, &'t str), word: Word<'t>) -> (&'t str, &'t str) {
     match word.kind {
         LexemeKind::Gap | LexemeKind::Doc => words,
@@ -117,7 +117,8 @@ fn words_after<'t>(words: (&'t str, &'t str), word: Word<'t>) -> (&'t str, &'t s
     }
 }
 
-/// Appends the module of an opening brace to `levels`, or removes the last one for a closing brace.
+/// Appends the name of a module to `levels` for an opening brace, and removes the last name for a
+/// closing brace. `words` contains the last two lexemes before `word`.
 fn note_brace<'t>(
     levels: &mut Vec<&'t str>,
     words: (&'t str, &'t str),

@@ -15,8 +15,8 @@ pub struct Replacement {
     pub text: String,
 }
 
-/// Returns the bytes of `text` with `parts` replaced, which are in order and do not overlap. All
-/// bytes between the parts stay unchanged.
+/// Returns the bytes of `text` with `parts` replaced. The parts must be in order and must not
+/// overlap. All bytes between the parts stay unchanged.
 ///
 /// # Errors
 ///
@@ -38,7 +38,7 @@ pub fn replace(alloc: Global, text: &str, parts: &[Replacement]) -> Result<Vec<u
     Ok(made)
 }
 
-/// Returns the bytes from the offset `from` to `to`, without `to`.
+/// Returns the bytes in the range `from..to`.
 fn between(bytes: &[u8], from: usize, to: usize) -> &[u8]
     requires order { from ≤ to }
     requires inside { to ≤ length bytes.now }

@@ -5,7 +5,7 @@ use std::env::Env;
 use std::io;
 use std::io::{IsTerminal, Write};
 
-/// An output that reports itself as a terminal if its writer is a terminal, and the variable
+/// An output that reports itself as a terminal if its writer is a terminal and the variable
 /// `NO_COLOR` allows colors.
 #[derive(Drop)]
 pub struct ColorOutput<W> {
@@ -14,7 +14,7 @@ pub struct ColorOutput<W> {
 }
 
 impl<W> ColorOutput<W> {
-    /// Returns an output for which the environment determines whether colors are allowed.
+    /// Returns an output to `writer`. The environment determines whether colors are allowed.
     pub fn new<V: Env>(variables: &V, writer: W) -> ColorOutput<W> {
         ColorOutput {
             writer,

@@ -6,23 +6,24 @@ ghost use Rattle.logos_screen.specs.Views.{IsCutFront, IsFront};
 use logos_page::columns_of;
 use std::alloc::AllocError;
 
-/// The mark at the end of a line that is cut. It takes one column.
+/// The mark at the end of a cut line, which takes one column.
 const CUT: &str = "…";
 
-/// The shown part of a line, and the mark after it, which is empty if the line is shown whole.
+/// The shown part of a line, and the mark after this part. The mark is empty if the whole line is
+/// shown.
 #[derive(Clone, Copy)]
 pub(crate) struct ShownLine<'l> {
     pub(crate) text: &'l str,
     pub(crate) mark: &'static str,
 }
 
-/// Appends a text to `block`. If there is a width, each line is cut to this number of columns and
-/// ends with LF.
+/// Appends a text to `block`. If `width` is not `None`, cuts each line to `width` columns, and ends
+/// each line with LF.
 ///
 /// # Errors
 ///
-/// Returns `AllocError` if memory runs out. Then a part of the text may have been appended to
-/// `block`.
+/// Returns `AllocError` if memory runs out. In this case, a part of the text may have been appended
+/// to `block`.
 pub fn push_fitted(block: &mut Vec<u8>, text: &str, width: Option<usize>) -> Result<(), AllocError>
     ensures { width ≡ None → OnOk result (block.new.items ≡ block.old.items ++ text.now) }
 {
@@ -57,8 +58,8 @@ pub(crate) fn push_end(block: &mut Vec<u8>, mark: &str) -> Result<(), AllocError
     block.extend_from_slice(b"\n")
 }
 
-/// Returns the shown part of a line: the whole line if it fits into `width` columns, or if `width`
-/// is `None`, otherwise a prefix with the mark of a cut.
+/// Returns the shown part of a line. This is the whole line if `width` is `None` or the line fits
+/// into `width` columns, and otherwise a prefix with the mark of a cut.
 pub(crate) fn front_of<'l>(line: &'l str, width: Option<usize>) -> ShownLine<'l>
     ensures { IsFront line.now width result.text.now result.mark.now }
 {
@@ -71,8 +72,8 @@ pub(crate) fn front_of<'l>(line: &'l str, width: Option<usize>) -> ShownLine<'l>
     }
 }
 
-/// Returns the first `end` bytes of a line, with the mark of a cut. Returns no bytes, with the
-/// mark, if the line cannot be split there.
+/// Returns the first `end` bytes of a line with the mark of a cut. Returns no bytes with this mark
+/// if the line cannot be split at `end`.
 fn cut_front<'l>(line: &'l str, end: usize) -> ShownLine<'l>
     ensures { IsCutFront line.now result.text.now result.mark.now }
 {

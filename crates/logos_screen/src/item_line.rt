@@ -25,7 +25,7 @@ struct ItemParts<'l> {
     text: &'l str,
 }
 
-/// A kind of part of an item's line, with a style of its own.
+/// The kind of a part of an item's line. Each kind has its own style.
 #[derive(Clone, Copy, Debug, PartialEq, Eq)]
 pub(crate) enum ItemPart {
     /// The location: bold and blue, like the frame of a report.
@@ -43,7 +43,8 @@ pub(crate) enum ItemPart {
 ///
 /// # Errors
 ///
-/// Returns `AllocError` if memory runs out. Then a part of the line may have been appended.
+/// Returns `AllocError` if memory runs out. In this case, a part of the line may have been
+/// appended.
 pub fn push_item_line(
     block: &mut Vec<u8>,
     screen: Screen,
@@ -71,8 +72,8 @@ fn parts_of<'l>(line: &'l str, variant: usize) -> ItemParts<'l>
     }
 }
 
-/// Returns the length in bytes of the location at the beginning of a line, which ends before the
-/// first space, or at the end of the line.
+/// Returns the length in bytes of the location at the beginning of a line. The location ends before
+/// the first space, or at the end of the line if there is no space.
 fn location_length(line: &str) -> usize {
     match line.find(' ') {
         Some(length) => length,
@@ -81,7 +82,7 @@ fn location_length(line: &str) -> usize {
 }
 
 /// Returns the parts of a text before and after the byte offset `at`. If the text cannot be split
-/// there, the first part is the whole text and the second part is empty.
+/// at this offset, the first part is the whole text and the second part is empty.
 fn split<'l>(text: &'l str, at: usize) -> (&'l str, &'l str)
     ensures { result.0.now ++ result.1.now ≡ text.now }
 {
@@ -91,8 +92,8 @@ fn split<'l>(text: &'l str, at: usize) -> (&'l str, &'l str)
     }
 }
 
-/// Appends the parts of a line to `block`. The variant and the text of an error have the color of
-/// errors.
+/// Appends the parts of a line to `block`, in their styles if `is_colored` is `true`. If `is_error`
+/// is `true`, the variant and the text have the style of an error.
 fn push_parts(
     block: &mut Vec<u8>,
     is_colored: bool,
@@ -112,7 +113,7 @@ fn push_parts(
     push_part(block, is_colored, text, parts.text)
 }
 
-/// Appends the text of a part to `block`, in the style of the part if `is_colored` holds.
+/// Appends the text of a part to `block`, in the style of the part if `is_colored` is `true`.
 fn push_part(
     block: &mut Vec<u8>,
     is_colored: bool,

@@ -1,4 +1,4 @@
-//! The screen on which an output is shown: whether it takes colors, and its width, to which lines
+//! The screen on which an output is shown: whether it takes colors, and the width to which lines
 //! are cut. Called by `logos_cli`, `logos_items` and `logos_show`.
 
 #![tactic(auto)]

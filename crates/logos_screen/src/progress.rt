@@ -1,25 +1,25 @@
-//! Shows a line about the progress of a long call of a program on standard error. Used by
-//! `logos_show`.
+//! Shows the progress of a program in a line on standard error. Used by `logos_show`.
 //!
-//! The line has the number of bytes that were written. It is shown after a second, if standard
-//! error is a terminal and standard output is not, and is cleared before a message and at the end.
+//! The line has the number of bytes that were written. It is first shown after a second, if
+//! standard error is a terminal and standard output is not. It is cleared before a message and at
+//! the end.
 
 use std::cell::Cell;
 use std::io;
 use std::io::{IsTerminal, Write};
 use std::time::{Clock, Duration};
 
-/// The milliseconds after which the line is shown first.
+/// The time in milliseconds after which the line is first shown.
 const PATIENCE: u64 = 1000;
 
-/// The milliseconds after which the line is shown again with the current number.
+/// The time in milliseconds after which the line is shown again with the current number.
 const PAUSE: u64 = 200;
 
-/// The text that overwrites the line with spaces, and then returns to its beginning.
+/// The text that overwrites the line with spaces, and then returns to the beginning of the line.
 const CLEAR: &[u8] = b"\r                                \r";
 
-/// The state of the progress line, which the outputs of a program share: whether the line is on the
-/// terminal.
+/// The state of the progress line: whether the line is on the terminal. The outputs of a program
+/// share this state.
 #[derive(Drop)]
 pub struct ProgressLine {
     is_shown: Cell<bool>,
@@ -33,7 +33,7 @@ impl ProgressLine {
         }
     }
 
-    /// Clears the line on standard error, if it is shown. An error of the writer is ignored.
+    /// Clears the line on standard error if the line is shown. Ignores errors of the writer.
     pub fn clear<E: Write>(&self, err: &mut E) {
         if self.is_shown.get() {
             self.is_shown.set(false);
@@ -43,18 +43,19 @@ impl ProgressLine {
     }
 }
 
-/// Standard error, as an output that clears the progress line before each write.
+/// An output to standard error that clears the progress line before each write.
 #[derive(Drop)]
 pub struct MessageOutput<'l, E> {
     line: &'l ProgressLine,
     writer: E,
-    /// A second handle on standard error, with which the progress line is cleared, so that only
-    /// messages count as written to `writer`.
+    /// A second handle to standard error. The progress line is cleared with this handle, so that
+    /// only messages count as written to `writer`.
     err: E,
 }
 
 impl<'l, E> MessageOutput<'l, E> {
-    /// Returns standard error as an output for messages. Both handles are on standard error.
+    /// Returns an output for messages to standard error. `writer` and `err` are handles to standard
+    /// error.
     pub fn new(line: &'l ProgressLine, writer: E, err: E) -> MessageOutput<'l, E> {
         MessageOutput { line, writer, err }
     }
@@ -84,7 +85,7 @@ impl<E: IsTerminal> IsTerminal for MessageOutput<'_, E> {
     }
 }
 
-/// Standard output, as an output that shows the number of written bytes on standard error.
+/// An output to standard output that shows the number of written bytes on standard error.
 #[derive(Drop)]
 pub struct CountedOutput<'l, S, O, E> {
     writer: O,
@@ -103,8 +104,9 @@ struct Progress<'l, S, E> {
 }
 
 impl<'l, S: Clock, O: IsTerminal, E: IsTerminal> CountedOutput<'l, S, O, E> {
-    /// Returns standard output to which no bytes were written. The number of written bytes is shown
-    /// only if `err` is a terminal, `writer` is not, and the system has a clock.
+    /// Returns an output to `writer`, the standard output, to which no bytes have been written. The
+    /// number of written bytes is shown only if `err` is a terminal, `writer` is not, and the
+    /// system has a clock.
     pub fn new(
         system: &'l S,
         line: &'l ProgressLine,
@@ -129,7 +131,8 @@ impl<'l, S: Clock, O: IsTerminal, E: IsTerminal> CountedOutput<'l, S, O, E> {
     }
 }
 
-/// Returns the time `milliseconds` from now, or `None` if the system has no clock or no such time.
+/// Returns the time `milliseconds` from now, or `None` if the system has no clock or the time
+/// overflows.
 fn time_in<S: Clock>(system: &S, milliseconds: u64) -> Option<Duration> {
     match system.monotonic() {
         Ok(time) => time.checked_add(Duration::from_millis(milliseconds)),
@@ -138,8 +141,8 @@ fn time_in<S: Clock>(system: &S, milliseconds: u64) -> Option<Duration> {
 }
 
 impl<S: Clock, E: Write> Progress<'_, S, E> {
-    /// Adds `length` to the number of written bytes, and shows this number if that is due. An error
-    /// of standard error is ignored.
+    /// Adds `length` to the number of written bytes, and shows this number if it is due. Ignores
+    /// errors of standard error.
     fn count(&mut self, length: usize) {
         self.written = self.written.saturating_add(length);
         if self.is_due() {

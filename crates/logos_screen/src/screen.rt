@@ -25,7 +25,7 @@ impl Screen {
     ghost use Rattle.std.specs.Prelude.{◌≡◌};
     ghost use Rattle.logos_screen.specs.Screens.{is_plain};
 
-    /// Returns whether lines have no colors, and are never cut.
+    /// Returns whether lines have no colors and are never cut.
     #[inline(always)]
     pub fn is_plain(self) -> bool
         ensures { result ≡ is_plain self }
@@ -37,9 +37,9 @@ impl Screen {
     }
 }
 
-/// Returns the form of an output. `color` is the condition under which the output has colors, and
-/// `is_terminal` is whether it is a terminal. Only a terminal has a width, which is the value of
-/// `COLUMNS`.
+/// Returns the form of an output. `color` is the condition under which the output has colors.
+/// `is_terminal` states whether the output is a terminal. Only a terminal has a width, the value of
+/// the variable `COLUMNS`.
 pub fn screen_of<V: Env>(variables: &V, color: Color, is_terminal: bool) -> Screen
     ensures { IsScreenOf color is_terminal result }
 {
@@ -54,8 +54,8 @@ pub fn screen_of<V: Env>(variables: &V, color: Color, is_terminal: bool) -> Scre
     }
 }
 
-/// Returns whether the environment allows colors: whether the variable `NO_COLOR` is empty, or not
-/// set.
+/// Returns whether the environment allows colors. Colors are allowed if the variable `NO_COLOR` is
+/// empty or not set.
 pub fn allows_colors<V: Env>(variables: &V) -> bool {
     let mut value = [0; 1];
     match variables.var("NO_COLOR", &mut value) {
@@ -65,11 +65,10 @@ pub fn allows_colors<V: Env>(variables: &V) -> bool {
     }
 }
 
-/// The maximum length of a value of the variable `COLUMNS` that is read, in bytes.
+/// The maximum length in bytes of a value of the variable `COLUMNS`. Longer values are ignored.
 const DIGITS: usize = 20;
 
-/// Returns the number of columns in the variable `COLUMNS`, or `None` if that is not a number above
-/// 0.
+/// Returns the value of the variable `COLUMNS`, or `None` if this value is not a number above 0.
 fn width_in<V: Env>(variables: &V) -> Option<usize> {
     let mut value = [0; DIGITS];
     match variables.var("COLUMNS", &mut value) {
@@ -78,8 +77,8 @@ fn width_in<V: Env>(variables: &V) -> Option<usize> {
     }
 }
 
-/// Returns the number that decimal digits spell, or `None` if there are other bytes, or the number
-/// is 0 or too large.
+/// Returns the number that `digits` denote, or `None` if a byte is not a decimal digit, or the
+/// number is 0 or overflows.
 fn number_of(digits: &[u8]) -> Option<usize> {
     let mut number: usize = 0;
     for digit in digits {
@@ -88,8 +87,8 @@ fn number_of(digits: &[u8]) -> Option<usize> {
     if number == 0 { None } else { Some(number) }
 }
 
-/// Returns a number with one more decimal digit, or `None` if `digit` is not an ASCII digit or the
-/// result is too large.
+/// Returns `number` with the decimal digit `digit` appended, or `None` if `digit` is not an ASCII
+/// digit or the result overflows.
 fn with_digit(number: usize, digit: u8) -> Option<usize> {
     if !digit.is_ascii_digit() {
         return None;

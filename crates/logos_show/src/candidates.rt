@@ -1,4 +1,4 @@
-//! Selects an enum of a file by its name, among those that derive `Logos`. Used by `choice`.
+//! Selects an enum by its name among the enums of a file that derive `Logos`. Used by `choice`.
 
 ghost use Rattle.std.specs.Prelude.{◌≢◌, ◌↔◌, All, Contains, IfOk, IsTrue, MatchOption, OnOk};
 ghost use Rattle.logos_show.specs.Views.{AddsCandidate, AreCandidates, EndsWith, EndsWithPath, HasName, HasPath, IsOther, IsSelected, Selects};
@@ -16,9 +16,10 @@ struct Candidate {
     path: String,
 }
 
-/// Selects among the enums of `found` that derive `Logos`, by their paths in the file `text`: the
-/// first one whose path is `name`, or otherwise the first one whose path ends with `name`. If
-/// another path ends with `name`, returns `Several`. Returns `Nothing` if no path ends with `name`.
+/// Selects among the enums in `found` that derive `Logos`, by their paths in the file `text`.
+/// Returns the first enum whose path is `name`, or otherwise the first enum whose path ends with
+/// `name`. In the second case, returns `Several` if another path also ends with `name`. Returns
+/// `Nothing` if no enum is selected.
 ///
 /// # Errors
 ///
@@ -35,7 +36,7 @@ pub(crate) fn named_enum(
     Ok(selected(&candidates, name))
 }
 
-/// Returns the enums of `found` that derive `Logos`, with their paths in the file `text`.
+/// Returns the enums in `found` that derive `Logos`, with their paths in the file `text`.
 fn candidates_of(alloc: Global, text: &str, found: &[FoundEnum]) -> Result<Vec<Candidate>, Memory>
     ensures { IfOk result (λ candidates. AreCandidates text.now found.now candidates.items) }
 {
@@ -46,7 +47,8 @@ fn candidates_of(alloc: Global, text: &str, found: &[FoundEnum]) -> Result<Vec<C
     Ok(candidates)
 }
 
-/// Adds `found` with its path in the file `text` to `candidates`, if it derives `Logos`.
+/// Adds the enum `found` with its path in the file `text` to `candidates` if the enum derives
+/// `Logos`.
 fn add_candidate(
     alloc: Global,
     text: &str,
@@ -64,9 +66,9 @@ fn add_candidate(
     Ok(())
 }
 
-/// Selects among candidates: the first one whose path is `name`, or otherwise the first one whose
-/// path ends with `name`. If another path ends with `name`, returns `Several`. Returns `Nothing` if
-/// no path ends with `name`.
+/// Selects among candidates. Returns the first candidate whose path is `name`, or otherwise the
+/// first candidate whose path ends with `name`. In the second case, returns `Several` if another
+/// path also ends with `name`. Returns `Nothing` if no candidate is selected.
 fn selected(candidates: &[Candidate], name: &str) -> Chosen
     ensures { IsSelected candidates.now name.now result }
 {
@@ -130,8 +132,8 @@ fn is_other(path: &str, name: &str, other: &str) -> bool
     ends_with_path(path, name) & (path != other)
 }
 
-/// Returns whether `name` selects an enum with the path `path`: whether the path is `name` or ends
-/// with it.
+/// Returns whether `name` selects an enum with the path `path`. This is the case if the path is
+/// `name` or ends with `name`.
 pub(crate) fn is_named(path: &str, name: &str) -> bool
     ensures { IsTrue result ↔ HasName name.now path.now }
 {

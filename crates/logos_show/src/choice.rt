@@ -1,4 +1,5 @@
-//! Selects the enum of a file whose lexer is requested. Used by the modules that need a lexer.
+//! Selects the enum whose lexer is requested among the enums of a file. Used by the modules that
+//! need a lexer.
 
 ghost use Rattle.std.specs.Prelude.{◌≡◌, ◌↔◌, ℕ, List, IfErr, IfOk, IfSome, IsTrue, None, Some, option_map, string_bytes};
 ghost use Rattle.logos_show.specs.Views.{Fault, Gains, HasName, IsCause, IsChosen, IsChosenIn, IsLexerOf, IsNextChoice, IsNoMisuse, IsPathOf, IsSeveralText, IsUnreadable, Refuses, RefusesBy, chosen_first, first_deriving, help_text, name_requested, name_text, no_lexer_text, other_text, several_text};
@@ -17,30 +18,28 @@ use logos_rust_file::{FoundEnum, enums_in, path_of};
 use std::alloc::{AllocError, Global};
 use std::io::Write;
 
-/// The first two enums of a file that derive `Logos` and have different paths, as far as the file
-/// was searched.
+/// The first two enums with different paths that derive `Logos`, among the enums of a file searched
+/// so far.
 #[derive(Clone, Copy)]
 struct Choice {
     /// The first enum that derives `Logos`, or `None` if none was found.
     first: Option<FoundEnum>,
-    /// The first enum after `first` that derives `Logos` and has another path, or `None` if none
-    /// was found.
+    /// The first enum after `first` that derives `Logos` and has a different path, or `None` if
+    /// none was found.
     second: Option<FoundEnum>,
 }
 
-/// The enums that a name selects, or those that derive `Logos` if no name is given.
+/// The enums that a name selects, or all enums that derive `Logos` if no name is given.
 #[derive(Clone, Copy)]
 pub(crate) enum Chosen {
     Nothing,
     One(FoundEnum),
-    /// Several enums, represented by the first one and the first of the others that has another
-    /// path.
+    /// Several enums, represented by the first one and the first later one with a different path.
     Several(FoundEnum, FoundEnum),
 }
 
-/// Returns the requested enum of a file, which is the first one that derives `Logos` if no name is
-/// given. If no name is given and enums with different paths derive `Logos`, writes a note to
-/// standard error.
+/// Returns the requested enum of a file. Without a name, this is the first enum that derives
+/// `Logos`, and a note is written to standard error if enums with different paths derive `Logos`.
 ///
 /// # Errors
 ///
@@ -69,8 +68,8 @@ pub(crate) fn lexer_in<'w, E: Write>(
     }
 }
 
-/// Returns the first of two enums and writes a note to standard error, if no name is given. With a
-/// name, refuses the file.
+/// Returns the first of two enums and writes a note to standard error if no name is given. Refuses
+/// the file if a name is given.
 fn one_of<'w, E: Write>(
     task: Task<'w>,
     source: &Source<'_>,
@@ -93,8 +92,7 @@ fn one_of<'w, E: Write>(
     Ok(enums.0)
 }
 
-/// Returns the note that the first of two enums was selected, with the help how to select the
-/// second.
+/// Returns the note that the first of two enums was selected, with help for selecting the second.
 fn first_text(
     alloc: Global,
     source: &Source<'_>,
@@ -113,7 +111,7 @@ fn first_text(
     Ok(page.finish()?)
 }
 
-/// Returns the enums of a file that are requested, which is never `Nothing`.
+/// Returns the requested enums of a file. The result is never `Nothing`.
 ///
 /// # Errors
 ///
@@ -149,8 +147,8 @@ pub(crate) fn found_in<'w>(
     }
 }
 
-/// Returns the refusal of a file that cannot be read into tokens, with its faults, or `Memory` if
-/// memory ran out.
+/// Returns the refusal of a file that cannot be read into tokens. The refusal contains the faults
+/// of the file. Returns `Memory` if memory runs out.
 fn unread(
     alloc: Global,
     showing: Showing,
@@ -169,8 +167,8 @@ fn unread(
     refused(alloc, whole, showing, Refusal::Errors(errors))
 }
 
-/// Returns the refusal of a file in which no enum derives `Logos`, or none with the requested name.
-/// Returns `Memory` if memory runs out.
+/// Returns the refusal of a file in which no enum derives `Logos`, or no enum with the requested
+/// name does. Returns `Memory` if memory runs out.
 fn no_lexer(alloc: Global, file: &str, name: Option<&str>) -> Failure<'static>
     ensures failed { IsNoMisuse result }
     ensures refused { RefusesBy (λ shown.
@@ -182,7 +180,8 @@ fn no_lexer(alloc: Global, file: &str, name: Option<&str>) -> Failure<'static>
     }
 }
 
-/// Returns the message that no enum in `file` derives `Logos`, or none with the name `name`.
+/// Returns the message that no enum in `file` derives `Logos`, or that no enum with the name `name`
+/// does.
 fn no_lexer_text(alloc: Global, file: &str, name: Option<&str>) -> Result<String, AllocError>
     ensures { IfOk result (λ text. string_bytes text
         ≡ no_lexer_text file.now (option_map (λ name. name.now) name.entry)) }
@@ -196,8 +195,8 @@ fn no_lexer_text(alloc: Global, file: &str, name: Option<&str>) -> Result<String
     page.finish()
 }
 
-/// Returns the refusal of a name that selects several enums, of which `enums` have different paths.
-/// Returns `Memory` if memory runs out.
+/// Returns the refusal of a name that selects several enums. `enums` contains two of these enums,
+/// which have different paths. Returns `Memory` if memory runs out.
 fn several(
     alloc: Global,
     source: &Source<'_>,
@@ -213,7 +212,8 @@ fn several(
     }
 }
 
-/// Returns the message that several enums have the name `name`, with the paths of `enums`.
+/// Returns the message that several enums have the name `name`, with the paths of the two enums in
+/// `enums`.
 fn several_text(
     alloc: Global,
     source: &Source<'_>,
@@ -244,7 +244,7 @@ fn push_several(page: &mut Page, file: &str, name: &str)
     page.push(" derive `Logos`: ");
 }
 
-/// Appends the path of the second enum to the message about several enums, and the end of the line.
+/// Appends the path of the second enum and the end of the line to the message about several enums.
 fn push_other(page: &mut Page, path: &str)
     ensures { Gains (other_text path.now) page.old page.new }
 {
@@ -253,7 +253,8 @@ fn push_other(page: &mut Page, path: &str)
     page.push("`\n");
 }
 
-/// Appends the help to select the enum with the path `path`, for a name that several enums have.
+/// Appends the help for a name that several enums have. The help suggests the path `path` in place
+/// of the name.
 fn push_help(page: &mut Page, path: &str)
     ensures { Gains (help_text path.now) page.old page.new }
 {
@@ -262,7 +263,7 @@ fn push_help(page: &mut Page, path: &str)
     page.push("`\n");
 }
 
-/// Appends the name of an enum in backticks and a space, or nothing for `None`.
+/// Appends the name of an enum in backticks and a space. Appends nothing if `name` is `None`.
 fn push_name(page: &mut Page, name: Option<&str>)
     ensures { Gains (name_text (option_map (λ name. name.now) name.entry)) page.old page.new }
 {
@@ -273,9 +274,9 @@ fn push_name(page: &mut Page, name: Option<&str>)
     }
 }
 
-/// Returns the selection among the enums of `found` that derive `Logos`. A name selects the first
-/// one with this path, or otherwise those whose path ends with the name. Without a name, all are
-/// selected.
+/// Selects among the enums in `found` that derive `Logos`. A name selects the first enum with this
+/// path, or otherwise the enums whose paths end with the name. Without a name, all enums that
+/// derive `Logos` are selected.
 fn enum_meant(
     alloc: Global,
     source: &Source<'_>,
@@ -291,8 +292,8 @@ fn enum_meant(
     }
 }
 
-/// Returns the first enum that derives `Logos`, with the first one of another path if there is one,
-/// or `Nothing` if none derives `Logos`.
+/// Returns the first enum that derives `Logos`, with the first later one that has a different path
+/// if there is one. Returns `Nothing` if no enum derives `Logos`.
 fn first_enum(alloc: Global, source: &Source<'_>, found: &[FoundEnum]) -> Result<Chosen, Memory>
     ensures { IfOk result (λ chosen. chosen_first chosen ≡ first_deriving found.now) }
 {
@@ -306,8 +307,8 @@ fn first_enum(alloc: Global, source: &Source<'_>, found: &[FoundEnum]) -> Result
     Ok(chosen_of(choice))
 }
 
-/// Returns the enums of a choice: `Nothing` for none, `One` for the first alone, otherwise
-/// `Several`.
+/// Returns the enums of a choice: `Nothing` if the choice is empty, `One` if it has only a first
+/// enum, and `Several` otherwise.
 fn chosen_of(choice: Choice) -> Chosen
     ensures { chosen_first result ≡ choice.first }
 {
@@ -318,8 +319,9 @@ fn chosen_of(choice: Choice) -> Chosen
     }
 }
 
-/// Returns `choice` after the enum `one`: unchanged if the enum does not derive `Logos`, if its
-/// path is that of the first one, or if there are two already.
+/// Returns `choice` updated with the enum `one`. The choice is unchanged if the enum does not
+/// derive `Logos`, if the enum has the path of the first one, or if the choice already has two
+/// enums.
 fn choice_with(
     alloc: Global,
     choice: Choice,
@@ -351,8 +353,8 @@ fn choice_with(
     })
 }
 
-/// Returns whether `name` selects an enum: whether the path of the enum is `name` or ends with it.
-/// Returns `true` if `name` is `None`.
+/// Returns whether `name` selects the enum `found`. This is the case if the path of the enum is
+/// `name` or ends with `name`. Returns `true` if `name` is `None`.
 ///
 /// # Errors
 ///

@@ -16,8 +16,8 @@ use logos_rust_file::FoundEnum;
 use std::alloc::AllocError;
 use std::io::Write;
 
-/// Writes the verdict on the requested lexers of a file and of the file at the path `other`, and a
-/// note to standard error. Returns whether they agree.
+/// Writes the verdict on the requested lexer of a file and the requested lexer of the file at the
+/// path `other`. Writes a note to standard error. Returns whether the lexers agree.
 ///
 /// # Errors
 ///
@@ -67,7 +67,7 @@ fn compare_sources<'w, O: Write, E: Write>(
     Ok(judgment.agreement)
 }
 
-/// Writes the verdict on the requested lexers of two files. Returns whether the lexers agree, with
+/// Writes the verdict on the requested lexers of two files. Returns whether the lexers agree, and
 /// the note about them.
 fn compare_files<'w, O: Write, E: Write>(
     task: Task<'w>,
@@ -106,8 +106,8 @@ fn named_lexer<'m, 's>(
     }
 }
 
-/// Writes the verdict on the lexer `one` and the requested lexer of another file. Returns whether
-/// the lexers agree, with the note about them.
+/// Writes the verdict on the lexer `one` and the requested lexer of the file `source`. Returns
+/// whether the lexers agree, and the note about them.
 fn compare_to<'w, O: Write, E: Write>(
     task: Task<'w>,
     one: NamedLexer<'_, '_>,

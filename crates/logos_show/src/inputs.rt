@@ -16,8 +16,9 @@ use logos_report::Source;
 use std::alloc::Global;
 use std::io::Write;
 
-/// Writes the first `most` of the inputs that together take all edges of the graph of the requested
-/// lexer of a file, and a note to standard error. Returns `Same`, since nothing is compared.
+/// Finds inputs that together take all edges of the graph of a file's requested lexer. Writes the
+/// first `most` of these inputs, and a note to standard error. Returns `Same`, because nothing is
+/// compared.
 ///
 /// # Errors
 ///
@@ -40,8 +41,8 @@ pub(crate) fn yield_inputs<'w, O: Write, E: Write>(
     Ok(Agreement::Same)
 }
 
-/// Writes the first `most` of the inputs for the requested lexer of a file, and returns the note
-/// about them.
+/// Writes the first `most` inputs for the requested lexer of a file, and returns the note about
+/// these inputs.
 fn inputs_by_file<'w, O: Write, E: Write>(
     task: Task<'w>,
     source: &Source<'_>,
@@ -62,8 +63,8 @@ fn inputs_by_file<'w, O: Write, E: Write>(
     }
 }
 
-/// Writes the first `most` of the inputs for the lexer of a graph, as JSON if `is_json` is set and
-/// otherwise as text. Returns the note about the inputs.
+/// Writes the first `most` inputs for the lexer with the graph `graph`, as JSON if `is_json` is
+/// `true` and as text otherwise. Returns the note about these inputs.
 fn inputs_by_graph<O: Write>(
     alloc: Global,
     graph: &Graph<'_>,

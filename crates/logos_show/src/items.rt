@@ -1,4 +1,4 @@
-//! Prints the items of an input. Used by `program` for a second path without an option.
+//! Prints the items of an input. Used by `program` if a second path is given without an option.
 
 ghost use Rattle.std.specs.Prelude.{IfErr};
 ghost use Rattle.logos_show.specs.Imports.{IsNoMisuse};
@@ -15,8 +15,8 @@ use logos_report::Source;
 use std::io::Write;
 use std::time::Clock;
 
-/// Writes the items that the requested lexer of a file finds in the input of the question, and a
-/// note to standard error.
+/// Writes the items that the requested lexer of a file finds in the input that the question names.
+/// Writes a note to standard error.
 ///
 /// # Errors
 ///
@@ -37,7 +37,8 @@ pub(crate) fn lex<'w, F: Files, C: Clock, O: Write, E: Write>(
     lex_by_file(task, source, &bytes, clock, err, out)
 }
 
-/// Returns the path of the input of a question for items, or an empty path for any other question.
+/// Returns the path of the input that a question for items names, or an empty path for any other
+/// question.
 fn input_of<'w>(question: Question<'w>) -> &'w str {
     match question {
         Question::Items(input) => input,
@@ -67,8 +68,8 @@ fn lex_by_file<'w, C: Clock, O: Write, E: Write>(
     print_note(lexed, err)
 }
 
-/// Writes the items that the lexer `made` finds in `bytes`, as JSON if it is requested. Returns the
-/// note about the items.
+/// Writes the items that the lexer `made` finds in `bytes`, as JSON if JSON is requested. Returns
+/// the note about the items.
 fn items_by_lexer<C: Clock, O: Write>(
     task: Task<'_>,
     made: &Generated<'_>,
@@ -90,11 +91,12 @@ fn items_by_lexer<C: Clock, O: Write>(
     write_items(order, made, bytes, clock, out)
 }
 
-/// Writes the note of `lexed` to standard error, or returns its failure.
+/// Writes the note in `lexed` to standard error.
 ///
 /// # Errors
 ///
-/// Returns the failure of `lexed`. If writing the note fails, the failure is ignored.
+/// Returns the failure in `lexed` if there is one. If writing the note fails, the failure to write
+/// is ignored.
 pub(crate) fn print_note<'w, E: Write>(
     lexed: Result<String, Failure<'w>>,
     err: &mut E,

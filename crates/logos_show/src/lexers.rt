@@ -1,12 +1,12 @@
-//! Constants and parts for the requested lexer of a file. Used by `comparison`, `diagrams`,
-//! `inputs`, `items`, `matches`, `page_files`, `pages` and `stream`.
+//! Defines the code shape of shown lexers, and returns the part of a file that begins at an enum.
+//! Used by `comparison`, `diagrams`, `inputs`, `items`, `matches`, `page_files`, `pages` and
+//! `stream`.
 
 use logos_codegen::generator::Config;
 use logos_report::{Part, Source};
 use logos_rust_file::FoundEnum;
 
-/// The shape of the code of each lexer that is shown. The counted tables do not depend on the
-/// shape.
+/// The code shape of each shown lexer. The counted tables do not depend on the shape.
 pub(crate) const SHAPE: Config = Config {
     use_state_machine_codegen: true,
 };

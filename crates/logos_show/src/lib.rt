@@ -23,8 +23,8 @@ use logos_host::{Disk, Failure};
 use logos_screen::{CountedOutput, MessageOutput, ProgressLine};
 use program::run_with;
 
-/// Runs `logos_show` with `arguments`, which are those of the process or the failure to read these.
-/// Returns the exit status.
+/// Runs `logos_show` and returns the exit status. `arguments` contains the arguments of the
+/// process, or the failure to read them.
 pub fn run_logos_show(rt: &HostRuntime, arguments: Result<Vec<String>, Failure<'static>>) -> u8
     requires { IfErr arguments (λ failure. (status_of failure ≡ 2) ⊎ (status_of failure ≡ 3)) }
     ensures usage { IfOk arguments.entry (λ passed.

@@ -1,4 +1,4 @@
-//! Prints the matches of a lexer that start at a point of an input. Used by `program` for `--at`.
+//! Prints the matches that start at a point of an input. Used by `program` for `--at`.
 
 ghost use Rattle.std.specs.Prelude.{◌≡◌, IfErr, IfOk, OnOk};
 ghost use Rattle.logos_show.specs.Views.{AllStart, IsBytes, IsGraphOf, IsNoMisuse, PrintsMatchesAs, Reads, ShowsMatchesOf, order_value, rules_of};
@@ -15,15 +15,15 @@ use logos_report::Source;
 use std::alloc::Global;
 use std::io::Write;
 
-/// A location in the file at a path.
+/// A location in the file at the path `path`.
 #[derive(Clone, Copy)]
 pub(crate) struct FilePoint<'w> {
     pub(crate) path: &'w str,
     pub(crate) location: Location,
 }
 
-/// Writes the matches that start at a point of an input, for the requested lexer of a file. Returns
-/// `Same`, since nothing is compared.
+/// Writes the matches that start at a point of an input, according to the requested lexer of a
+/// file. Returns `Same`, because nothing is compared.
 ///
 /// # Errors
 ///
@@ -49,8 +49,8 @@ pub(crate) fn show_matches<'w, F: Files, O: Write, E: Write>(
     Ok(Agreement::Same)
 }
 
-/// Writes the matches that start at the location of `point` in `bytes`, for the requested lexer of
-/// a file.
+/// Writes the matches that start at the location of `point` in `bytes`, according to the requested
+/// lexer of a file.
 fn matches_by_file<'w, O: Write, E: Write>(
     task: Task<'w>,
     source: &Source<'_>,
@@ -79,8 +79,8 @@ fn matches_by_file<'w, O: Write, E: Write>(
     }
 }
 
-/// Writes the matches of the lexer `made` that start at a point of an input, as JSON if `is_json`
-/// is set and otherwise as text.
+/// Writes the matches that start at a point of an input, according to the lexer `made`. Writes JSON
+/// if `is_json` is `true` and text otherwise.
 fn matches_by_lexer<O: Write>(
     alloc: Global,
     made: &Generated<'_>,

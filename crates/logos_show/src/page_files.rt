@@ -16,7 +16,8 @@ use logos_report::Source;
 use logos_rust_file::FoundEnum;
 use std::io::Write;
 
-/// The paths of a page and of the input on it. A page to `-` is written to standard output.
+/// The path of a page, and the path of the input shown on the page, if there is one. A page with
+/// the path `-` is written to standard output.
 #[derive(Clone, Copy)]
 pub(crate) struct PageOrder<'w> {
     pub(crate) to: &'w str,
@@ -58,7 +59,8 @@ pub(crate) fn write_page<'w, F: Files, O: Write, E: Write>(
     write_file(order.to, page.as_str().as_bytes(), files)
 }
 
-/// Returns the page of the requested lexer of a file, with the text of `input` if one is given.
+/// Returns the page of the requested lexer of a file, with the text of `input` if there is an
+/// input.
 fn page_by_file<'w, E: Write>(
     task: Task<'w>,
     source: &Source<'_>,
@@ -76,8 +78,8 @@ fn page_by_file<'w, E: Write>(
     }
 }
 
-/// Returns the page of the lexer `made` of the enum `one`, with the text of `input` if one is
-/// given.
+/// Returns the page of the lexer `made` of the enum `one`, with the text of `input` if there is an
+/// input.
 fn page_by_lexer(
     task: Task<'_>,
     source: &Source<'_>,

@@ -28,11 +28,11 @@ use std::mem;
 /// The output for a file: the tables, examples or records of its lexers, and its warnings.
 #[derive(Drop)]
 pub(crate) struct Shown {
-    /// The tables of the lexers of the file, or their examples. Empty if the form is JSON.
+    /// The tables or the examples of the lexers of the file. Empty if the form is JSON.
     pub(crate) tables: String,
-    /// The tables or examples as lines of JSON. Empty if the form is not JSON.
+    /// The leaves or the examples of the lexers as lines of JSON. Empty if the form is not JSON.
     pub(crate) records: Vec<u8>,
-    /// The text of the warnings of the file, empty if there are none.
+    /// The text of the warnings of the file. Empty if there are no warnings.
     pub(crate) warnings: Vec<u8>,
 }
 
@@ -44,7 +44,7 @@ pub(crate) struct PageStyle {
     pub(crate) form: Form,
 }
 
-/// The output for a file while its enums are read one after another.
+/// The output that is collected for a file while its enums are read in turn.
 #[derive(Drop)]
 struct Pages {
     tables: Page,
@@ -53,12 +53,12 @@ struct Pages {
     style: PageStyle,
 }
 
-/// Returns the output for a file, or for the enums in it that `name` selects.
+/// Returns the output for all enums of a file, or for the enums that `name` selects.
 ///
 /// # Errors
 ///
-/// Returns `Refused` with the faults of the file, or of the first enum that has any. Returns
-/// `Memory` if memory runs out.
+/// Returns `Refused` with the faults of the file, with the faults of the first enum that has any,
+/// or with the warnings if warnings are denied. Returns `Memory` if memory runs out.
 pub(crate) fn shown_of(
     alloc: Global,
     source: &Source<'_>,
@@ -79,8 +79,8 @@ pub(crate) fn shown_of(
     shown_by(source, pages, !has_lexer(&file.found))
 }
 
-/// Returns the output for the enums of `found`, or for those that `name` selects. `lines` is the
-/// index of the lines of the file.
+/// Returns the output for the enums in `found`, or for the enums among them that `name` selects.
+/// `lines` is the index of the lines of the file.
 fn pages_of<'f, 's>(
     source: &'f Source<'s>,
     lines: &'f LineIndex<'s>,
@@ -103,8 +103,8 @@ fn pages_of<'f, 's>(
     Ok(pages)
 }
 
-/// Returns the finished output for a file. `is_missing` is whether none of its enums derives
-/// `Logos`. If warnings are denied and there are some, refuses the file.
+/// Returns the finished output for a file. `is_missing` is `true` if no enum of the file derives
+/// `Logos`. Refuses the file if warnings are denied and there are warnings.
 fn shown_by(source: &Source<'_>, pages: Pages, is_missing: bool) -> Result<Shown, Failure<'static>>
     ensures { IfErr result IsNoMisuse }
 {
@@ -119,7 +119,8 @@ fn shown_by(source: &Source<'_>, pages: Pages, is_missing: bool) -> Result<Shown
     })
 }
 
-/// Returns the refusal of a file whose warnings are denied, with these warnings.
+/// Returns the refusal of a file whose warnings are denied. The refusal contains the warnings
+/// `warned`.
 fn denied(source: &Source<'_>, showing: Showing, warned: &[Warning]) -> Failure<'static>
     ensures { IsNoMisuse result }
 {
@@ -142,7 +143,7 @@ fn enum_in<'f, 's>(
     }
 }
 
-/// Appends the output for an enum to `pages`, if `name` selects the enum or is `None`.
+/// Appends the output for an enum to `pages` if `name` selects the enum or is `None`.
 fn push_named(
     pages: &mut Pages,
     one: EnumInFile<'_, '_>,
@@ -158,8 +159,8 @@ fn push_named(
     Ok(())
 }
 
-/// Appends the output for an enum to `pages`: its lexer if `derives` is set, otherwise the warnings
-/// about its text.
+/// Appends the output for an enum to `pages`: its lexer if `derives` is `true`, and the warnings
+/// about its text otherwise.
 fn push_enum(
     alloc: Global,
     pages: &mut Pages,
@@ -175,8 +176,8 @@ fn push_enum(
     Ok(())
 }
 
-/// Appends the output for an enum that derives `Logos` to `pages`. If the enum has no lexer,
-/// returns its refusal.
+/// Appends the output for an enum that derives `Logos` to `pages`. Returns the refusal of the enum
+/// if it has no lexer.
 fn push_lexer(
     alloc: Global,
     pages: &mut Pages,
@@ -193,8 +194,8 @@ fn push_lexer(
     }
 }
 
-/// Returns the explanation of a refused enum, with the warnings of `pages` before its own. No
-/// warnings remain in `pages`.
+/// Returns the explanation of a refused enum. The warnings of `pages` are moved into the
+/// explanation, before the warnings of the enum.
 fn known_after(
     alloc: Global,
     pages: &mut Pages,
@@ -209,8 +210,8 @@ fn known_after(
     })
 }
 
-/// Appends the leaves of a lexer or its examples to `pages`, and the warnings of its enum and of
-/// its leaves.
+/// Appends the leaves or the examples of the lexer `made` to `pages`, and the warnings about its
+/// enum and its leaves.
 fn push_made(
     alloc: Global,
     pages: &mut Pages,
@@ -237,7 +238,7 @@ fn push_made(
 }
 
 /// Returns the tokens of the text of an enum that has a lexer. Such a text can always be read into
-/// tokens, so each error is `Memory`.
+/// tokens, so the only possible error is `Memory`.
 fn tokens_of<'s>(alloc: Global, text: &'s str) -> Result<TokenStream<'s>, Memory> {
     match tokenize(alloc, text) {
         Ok(stream) => Ok(stream),

@@ -1,4 +1,4 @@
-//! Runs the program, from its arguments to its exit status. Used by `run_logos_show`.
+//! Runs the program with its arguments, and returns the exit status. Used by `run_logos_show`.
 
 ghost use Rattle.std.specs.Prelude.{◌≡◌, ◌≤◌, ◌↔◌, ◌⊎◌, None, IfErr, IfOk, IfSome, map, string_bytes};
 ghost use Rattle.logos_show.specs.Views.{Answers, AnswersAbout, AnswersOrExpects, Expects, IsFulfilled, IsNoMisuse, expected_in, is_json, order_value, question_value, request_value, requested, status_of};
@@ -90,9 +90,10 @@ pub(crate) fn run_with<
     }
 }
 
-/// Runs the program, and returns the exit status: 0 if the request is fulfilled, 1 if it is refused
-/// or two lexers differ, 2 if the arguments are invalid, and 3 if a file, an output or memory
-/// fails. The messages of failures and the warnings are written to standard error.
+/// Runs the program, and returns the exit status: 0 if the request is fulfilled, 1 if the request
+/// is refused or a comparison finds a difference, 2 if the arguments are invalid, and 3 if a file,
+/// an output or memory fails. The messages of failures and the warnings are written to standard
+/// error.
 pub(crate) fn run<
     F: ComparableFiles,
     C: Clock + StandardInput + Env,
@@ -118,7 +119,7 @@ pub(crate) fn run<
     }
 }
 
-/// Writes the message of a failure to standard error, and returns its exit status.
+/// Writes the message of a failure to standard error, and returns the failure's exit status.
 fn failed<E: Write>(failure: &Failure<'_>, err: &mut E) -> u8
     ensures { result ≡ status_of failure.now }
 {
@@ -126,7 +127,7 @@ fn failed<E: Write>(failure: &Failure<'_>, err: &mut E) -> u8
     failure.status()
 }
 
-/// An order that is carried out, with the settings for messages and for the screen.
+/// An order to be carried out, with the settings for messages and for the screen.
 #[derive(Clone, Copy)]
 pub(crate) struct Task<'w> {
     pub(crate) order: ShowOrder<'w>,
@@ -136,8 +137,7 @@ pub(crate) struct Task<'w> {
     pub(crate) screen: Screen,
 }
 
-/// Carries out the request. Returns the outcome of its comparison, or `Same` if it compares
-/// nothing.
+/// Carries out a request. Returns the outcome of the comparison, or `Same` if nothing is compared.
 fn carry_out<
     'w,
     F: ComparableFiles,
@@ -177,8 +177,8 @@ fn carry_out<
     }
 }
 
-/// Returns the settings for messages of an order. `is_terminal` is whether messages go to a
-/// terminal, which has colors unless `variables` forbid them.
+/// Returns the settings for the messages of an order. `is_terminal` is `true` if messages are
+/// written to a terminal. A terminal has colors unless `variables` forbid them.
 fn showing_of<V: Env>(
     alloc: Global,
     order: ShowOrder<'_>,
@@ -194,7 +194,8 @@ fn showing_of<V: Env>(
     }
 }
 
-/// Returns `Same` if `done` succeeded, otherwise its failure. For requests that compare nothing.
+/// Returns `Same` if `done` succeeded, and the failure otherwise. Used for requests that compare
+/// nothing.
 fn as_same<'w>(done: Result<(), Failure<'w>>) -> Result<Agreement, Failure<'w>>
     requires { IfErr done IsNoMisuse }
     ensures failed { IfErr result IsNoMisuse }
@@ -206,8 +207,9 @@ fn as_same<'w>(done: Result<(), Failure<'w>>) -> Result<Agreement, Failure<'w>>
     }
 }
 
-/// Answers the question about the lexers of a file, or compares the answer with the stored one that
-/// `--expect` names. Returns the outcome of the comparison, or `Same` if nothing is compared.
+/// Answers the question about the lexers of a file. With the option `--expect`, compares the answer
+/// with the stored answer that the option names instead. Returns the outcome of the comparison, or
+/// `Same` if nothing is compared.
 fn answer_or_compare<'w, F: Files, C: Clock + StandardInput, O: Write, E: Write>(
     task: Task<'w>,
     files: &mut F,
@@ -251,8 +253,8 @@ fn expect<'w, F: Files, C: Clock + StandardInput, O: Write, E: Write>(
     write_agreement(alloc, path, &stored, &made, out)
 }
 
-/// Answers the question about the lexers of the file of the order. Returns the outcome of its
-/// comparison, or `Same` if the question compares nothing.
+/// Answers the question about the lexers of the file that the order names. Returns the outcome of
+/// the comparison, or `Same` if nothing is compared.
 fn answer<'w, F: Files, C: Clock + StandardInput, O: Write, E: Write>(
     task: Task<'w>,
     files: &mut F,
@@ -276,8 +278,8 @@ fn answer<'w, F: Files, C: Clock + StandardInput, O: Write, E: Write>(
     answer_about(task, &source, files, clock, err, out)
 }
 
-/// Answers the question about the lexers of `source`. Returns the outcome of its comparison, or
-/// `Same` if the question compares nothing.
+/// Answers the question about the lexers of `source`. Returns the outcome of the comparison, or
+/// `Same` if nothing is compared.
 fn answer_about<'w, F: Files, C: Clock + StandardInput, O: Write, E: Write>(
     task: Task<'w>,
     source: &Source<'_>,
@@ -307,8 +309,8 @@ fn answer_about<'w, F: Files, C: Clock + StandardInput, O: Write, E: Write>(
     }
 }
 
-/// Writes the items of the input of the question. Items of standard input are written as they are
-/// found, unless they are written as JSON.
+/// Writes the items of the input that the question names. Items of standard input are written as
+/// soon as they are found, unless they are written as JSON.
 fn lex_any<'w, F: Files, C: Clock + StandardInput, O: Write, E: Write>(
     task: Task<'w>,
     source: &Source<'_>,
@@ -356,8 +358,8 @@ fn show<'w, O: Write, E: Write>(
     print_bytes(&records, out)
 }
 
-/// Writes `tables`, which may be empty. The lines of tables of leaves are cut to the width of the
-/// screen, but not those of examples.
+/// Writes `tables`, which may be empty. The lines of leaf tables are cut to the width of the
+/// screen. The lines of examples are not cut.
 fn print_tables<'w, O: Write>(task: Task<'w>, tables: &str, out: &mut O) -> Result<(), Failure<'w>>
     ensures { IfErr result IsNoMisuse }
 {
@@ -377,8 +379,8 @@ pub(crate) fn is_json(order: ShowOrder<'_>) -> bool
     order.settings.has(OptionName::Json)
 }
 
-/// Returns the form in which the lexers of a file are shown for an order. A question for neither
-/// leaves nor examples has the form of leaves.
+/// Returns the form in which the lexers of a file are shown for an order. Questions that request
+/// neither leaves nor examples have the form of leaves.
 fn form_of(order: ShowOrder<'_>) -> Form {
     match (order.question, is_json(order)) {
         (Question::Examples, false) => Form::Examples,

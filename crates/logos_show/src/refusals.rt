@@ -37,8 +37,8 @@ pub(crate) fn text_of<'t>(source: &Source<'t>, found: FoundEnum) -> &'t str
     slice(source.text(), found.span)
 }
 
-/// Returns the refusal of a part of a file, with its faults. If an enum begins at the part, its
-/// clues and its warnings are added. Returns `Memory` if memory ran out.
+/// Returns the refusal of a part of a file, with its faults. If an enum begins at the start of the
+/// part, the clues and the warnings of the enum are added. Returns `Memory` if memory runs out.
 pub(crate) fn refused(
     alloc: Global,
     part: Part<'_, '_>,
@@ -54,8 +54,9 @@ pub(crate) fn refused(
     }
 }
 
-/// Returns the clues and the warnings of the enum at the beginning of a part of a file, or none if
-/// no enum begins there. The spans of the warnings are relative to the beginning of the file.
+/// Returns the clues and the warnings of the enum at the start of a part of a file. The result is
+/// empty if no enum begins at this point. The spans of the warnings are relative to the start of
+/// the file.
 fn known_of(alloc: Global, part: Part<'_, '_>) -> Result<Explained, Memory> {
     let Explained { clues, warnings } = explain(alloc, enum_at(alloc, part)?)?;
     let mut warned = Vec::new(alloc);
@@ -66,9 +67,9 @@ fn known_of(alloc: Global, part: Part<'_, '_>) -> Result<Explained, Memory> {
     })
 }
 
-/// Returns the refusal of a part of a file, with its faults, and with the clues and the warnings of
-/// `known`. The spans of the warnings are relative to the beginning of the file. Returns `Memory`
-/// if memory ran out.
+/// Returns the refusal of a part of a file, with its faults and with the clues and the warnings of
+/// `known`. The spans of the warnings are relative to the start of the file. Returns `Memory` if
+/// memory runs out.
 pub(crate) fn refused_with(
     part: Part<'_, '_>,
     showing: Showing,
@@ -120,8 +121,8 @@ fn refusal_text(
     }
 }
 
-/// Returns the text of the enum at the beginning of a part of a file. Returns an empty text if no
-/// enum begins there, or if the file cannot be read into tokens.
+/// Returns the text of the enum at the start of a part of a file. Returns an empty text if no enum
+/// begins at this point, or if the file cannot be read into tokens.
 fn enum_at<'t>(alloc: Global, part: Part<'_, 't>) -> Result<&'t str, Memory> {
     let found = match enums_in(alloc, part.source.text()) {
         Ok(found) => found,

@@ -1,4 +1,4 @@
-//! Prints the items of standard input, one line for each, as they are found. Used by `program`.
+//! Prints the items of standard input, one on each line, as they are found. Used by `program`.
 
 ghost use Rattle.std.specs.Prelude.{IfErr};
 ghost use Rattle.logos_show.specs.Imports.{IsNoMisuse};
@@ -15,8 +15,8 @@ use logos_report::Source;
 use std::io::{Input, Write};
 use std::time::Clock;
 
-/// Writes the items that the requested lexer of a file finds in standard input, as they are found,
-/// and a note to standard error.
+/// Writes the items that the requested lexer of a file finds in standard input. Each item is
+/// written as soon as it is found. Writes a note to standard error.
 ///
 /// # Errors
 ///

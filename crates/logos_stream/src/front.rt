@@ -17,12 +17,12 @@ pub(crate) enum Front {
     Item(StreamItem),
     /// No item up to this offset. The next item depends on the bytes that follow.
     Waits(usize),
-    /// No item up to the end of the bytes, after which the input ends.
+    /// No item up to the end of the bytes, where the input ends.
     Ends,
 }
 
-/// Returns the first event in `bytes`. If `is_last` is set, `bytes` are the last bytes of the
-/// input; otherwise more may follow.
+/// Returns the first event in `bytes`. If `is_last` is `true`, `bytes` are the last bytes of the
+/// input. Otherwise, more bytes may follow.
 pub(crate) fn front_of<C: Fn(LeafId, &[u8]) -> Action + Copy>(
     code: &Code<'_>,
     bytes: &[u8],

@@ -21,11 +21,11 @@ pub enum StreamItem {
 /// The next event of a stream.
 #[derive(Clone, Copy, Debug, PartialEq, Eq)]
 pub enum Streamed {
-    /// The next item, whatever bytes follow.
+    /// The next item, regardless of the bytes that follow.
     Item(StreamItem),
-    /// A request for more bytes, on which the next event depends: call `Stream::read`.
+    /// A request to call `Stream::read`, because the next event depends on more bytes.
     More,
-    /// No event: the next one depends on more bytes than may be in memory at a time.
+    /// The stream is stopped: the next event depends on more bytes than may be in memory at a time.
     TooLong,
     /// Bytes at `Stream::offset` that are not UTF-8, for a code in UTF-8 mode. All items of the
     /// text before these bytes have been returned.
@@ -47,7 +47,7 @@ impl StreamItem {
     }
 }
 
-/// Returns the item with its span moved by `by` bytes, saturating at the greatest number.
+/// Returns the item with its span moved by `by` bytes, saturating at `usize::MAX`.
 pub(crate) fn later(item: StreamItem, by: usize) -> StreamItem
     ensures { by + start_of item < 2 ^ 64 → by + end_of item < 2 ^ 64 → (slice : List ℕ) →
         item_with result slice ≡ item_later by (item_with item slice) }
@@ -64,7 +64,7 @@ pub(crate) fn later(item: StreamItem, by: usize) -> StreamItem
     }
 }
 
-/// Returns the span moved by `by` bytes, saturating at the greatest number.
+/// Returns the span moved by `by` bytes, saturating at `usize::MAX`.
 fn span_later(span: Span, by: usize) -> Span
     ensures from { by + span.from < 2 ^ 64 → result.from ≡ by + span.from }
     ensures to { by + span.to < 2 ^ 64 → result.to ≡ by + span.to }

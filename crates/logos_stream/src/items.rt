@@ -17,8 +17,8 @@ impl<'c, 's, R: Read + Drop, C: Fn(LeafId, &[u8]) -> Action + Copy> Stream<'c, '
     ///
     /// # Errors
     ///
-    /// Returns `InvalidData` if `next` returns `TooLong` or `NotUtf8`, and the error of the reader,
-    /// except for `Interrupted`, after which the function reads again. Returns `OutOfMemory` if
+    /// Returns the error of the reader if reading fails, except that an interrupted read is
+    /// repeated. Returns `InvalidData` if `next` returns `TooLong` or `NotUtf8`, `OutOfMemory` if
     /// memory runs out, and `TimedOut` after 2^64 - 1 items and reads together.
     pub fn items(self, alloc: Global) -> io::Result<Vec<StreamItem>>
         requires { TakesMatches C.Fn self.code self.callback }
@@ -35,8 +35,8 @@ impl<'c, 's, R: Read + Drop, C: Fn(LeafId, &[u8]) -> Action + Copy> Stream<'c, '
         Err(io::Error::from(ErrorKind::TimedOut))
     }
 
-    /// Appends the next item to `items`, or reads if there is none yet. Returns whether the stream
-    /// has ended.
+    /// Appends the next item to `items`, or reads once if the next item depends on more bytes.
+    /// Returns whether the stream has ended.
     fn step(&mut self, items: &mut Vec<StreamItem>) -> io::Result<bool>
         requires { TakesMatches C.Fn self.old.code self.old.callback }
         ensures keeps { KeepsCode self.old self.new }

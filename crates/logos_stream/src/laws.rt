@@ -7,14 +7,14 @@ use logos_code::action::Action;
 use logos_hir::leaf::LeafId;
 use std::io::Read;
 
-/// The items of a stream are those of a run on all bytes that were read, regardless of the lengths
-/// of the reads.
+/// The items of a stream are the items of a run on all bytes that were read, regardless of the
+/// lengths of the reads.
 pub fn streams_are_of_the_whole<R: Read, C: Fn(LeafId, &[u8]) -> Action>(_reader: &R, callback: &C)
     ensures { StreamsAreOfTheWhole R.remaining (answers_of C.Fn callback.now) }
 {}
 
-/// The items from `Stream::items` are those of a run on all bytes of its reader, if the contract of
-/// the reader determines these bytes.
+/// The items from `Stream::items` are the items of a run on all bytes of its reader if the contract
+/// of the reader determines these bytes.
 pub fn all_items_are_of_the_whole<R: Read, C: Fn(LeafId, &[u8]) -> Action>(
     _reader: &R,
     callback: &C,

@@ -1,4 +1,4 @@
-//! Lexes an input of any length while it is read. `logos_items` and users' code call it.
+//! Lexes an input of any length while it is read. Used by `logos_items` and users' code.
 
 #![tactic(auto)]
 

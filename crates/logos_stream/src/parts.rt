@@ -9,17 +9,17 @@ use std::io;
 use std::io::Read;
 use std::marker::Model;
 
-/// An input that is read in parts: a reader, and the part, which is the bytes that were read and
-/// not passed. Offsets and lengths count bytes.
+/// An input that is read in parts. It consists of a reader, and of the part: the bytes that were
+/// read and not yet passed. Offsets and lengths count bytes.
 ///
-/// At most as many bytes as the bound are in memory. To lex an input of any length: read, lex the
+/// The number of bytes in memory is at most the bound. To lex an input of any length, read, lex the
 /// part with `Lexer::next_within(parts.is_last())`, and pass the bytes before the offset at which
 /// the lexer waits. To get the span of an item in the input, add `before` to its span in the part.
 /// If the part is full and nothing can be passed, the item is longer than the bound.
 ///
-/// In UTF-8 mode the part may end inside a character: lex its longest prefix that is UTF-8. To keep
-/// the time linear in the length of the input, read until the part is twice as long as the bytes
-/// that were left.
+/// In UTF-8 mode, the part may end inside a character. Then lex only the longest prefix of the part
+/// that is UTF-8. To keep the time linear in the length of the input, read until the part is twice
+/// as long as the bytes that were left.
 #[derive(Drop)]
 pub struct Parts<R> {
     reader: R,
@@ -47,8 +47,8 @@ impl<R> Model for Parts<R> {
 }
 
 impl<R: Read + Drop> Parts<R> {
-    /// Returns the input of a reader, of which nothing has been read. At most `bound` bytes of the
-    /// input are in memory at a time.
+    /// Returns the input of a reader, before anything is read. At most `bound` bytes of the input
+    /// are in memory at a time.
     ///
     /// # Errors
     ///
@@ -86,16 +86,16 @@ impl<R: Read + Drop> Parts<R> {
         self.before
     }
 
-    /// Returns whether the last call of `read` without an error read no bytes, so that the part is
-    /// the last one.
+    /// Returns whether the part is the last one: whether the last successful call of `read` read no
+    /// bytes.
     pub fn is_last(&self) -> bool
         ensures { result ≡ self.now.is_over }
     {
         self.is_over
     }
 
-    /// Returns whether the part is as long as the bound. If it is, bytes have to be passed before
-    /// `read` can be called.
+    /// Returns whether the part is as long as the bound. If the part is full, bytes have to be
+    /// passed before `read` can be called.
     pub fn is_full(&self) -> bool
         ensures { MatchBool result (length self.now.part ≡ self.now.bound)
             (length self.now.part < self.now.bound) }
@@ -103,8 +103,8 @@ impl<R: Read + Drop> Parts<R> {
         self.held == self.buffer.len()
     }
 
-    /// Passes the first `bytes` bytes of the part: they leave memory, and `before` counts them,
-    /// saturating at the greatest number.
+    /// Passes the first `bytes` bytes of the part. They are removed from memory, and `before`
+    /// increases by their number, saturating at `u64::MAX`.
     pub fn pass(&mut self, bytes: usize)
         requires { bytes ≤ length self.old.part }
         ensures { self.new ≡ without bytes self.old }
@@ -114,8 +114,8 @@ impl<R: Read + Drop> Parts<R> {
         self.before = self.before.saturating_add(bytes as u64);
     }
 
-    /// Reads once from the reader, and appends the bytes read to the part. If there are none, the
-    /// input has ended. The part must not be full.
+    /// Reads once from the reader, and appends the bytes read to the part. If no bytes are read,
+    /// the input has ended. The part must not be full.
     ///
     /// # Errors
     ///

@@ -1,4 +1,4 @@
-//! A stream: a reader, and the items of its bytes. Used by `items` and `logos_items`.
+//! A stream, which lexes the bytes of a reader. Used by `items` and `logos_items`.
 
 ghost use Rattle.std.specs.Prelude.{◌≡◌, ◌<◌, IfOk, OnErr};
 ghost use Rattle.logos_stream.specs.Views.{answers_of, at_start, unread_length, DoesNext, KeepsCode, ReadsOn, StaysUnread, TakesMatches};
@@ -14,10 +14,10 @@ use std::io;
 use std::io::Read;
 use std::marker::Model;
 
-/// A lexer on the bytes of a reader, which returns their items while it reads. Offsets and lengths
+/// A lexer that returns the items of a reader's bytes while it reads them. Offsets and lengths
 /// count bytes.
 ///
-/// At most as many bytes as the bound are in memory, regardless of the length of the stream. In
+/// The number of bytes in memory is at most the bound, regardless of the length of the stream. In
 /// UTF-8 mode the bytes are validated as they are read.
 ///
 /// ```text
@@ -52,9 +52,8 @@ impl<'c, 's, R, C> Model for Stream<'c, 's, R, C> {
 }
 
 impl<'c, 's, R: Read + Drop, C: Fn(LeafId, &[u8]) -> Action + Copy> Stream<'c, 's, R, C> {
-    /// Returns the stream of a reader, of which nothing has been read. At most `bound` bytes of the
-    /// stream are in memory at a time. `callback` is called for each match of a leaf that has a
-    /// callback.
+    /// Returns the stream of a reader, before anything is read. At most `bound` bytes of the stream
+    /// are in memory at a time. `callback` is called for each match of a leaf that has a callback.
     ///
     /// # Errors
     ///
@@ -77,8 +76,8 @@ impl<'c, 's, R: Read + Drop, C: Fn(LeafId, &[u8]) -> Action + Copy> Stream<'c, '
     }
 
     /// Returns the next event. An item is returned only if it does not depend on the bytes that
-    /// follow. After any other event, each call returns that event again until `read` has read
-    /// bytes or the end.
+    /// follow. Any other event is returned again by each call until `read` has read bytes or
+    /// reached the end.
     pub fn next(&mut self) -> Streamed
         requires { TakesMatches C.Fn self.old.code self.old.callback }
         ensures keeps { KeepsCode self.old self.new }
@@ -101,7 +100,7 @@ impl<'c, 's, R: Read + Drop, C: Fn(LeafId, &[u8]) -> Action + Copy> Stream<'c, '
     ///
     /// # Errors
     ///
-    /// Returns the error of the reader. The bytes that were read before stay, and `read` can be
+    /// Returns the error of the reader. The bytes that were read before remain, and `read` can be
     /// called again.
     pub fn read(&mut self) -> io::Result<()>
         requires { unread_length self.old.window < self.old.window.bound }
@@ -113,8 +112,9 @@ impl<'c, 's, R: Read + Drop, C: Fn(LeafId, &[u8]) -> Action + Copy> Stream<'c, '
         self.window.read()
     }
 
-    /// Returns the bytes that the last call of `next` passed before its event, without an item. The
-    /// next read from the reader drops these bytes.
+    /// Returns the bytes that the last call of `next` passed before the item that it returned, or
+    /// all bytes that it passed if it returned another event. The next read from the reader drops
+    /// these bytes.
     pub fn skipped(&self) -> &[u8]
         ensures { result.now ≡ self.now.window.skipped }
     {
@@ -129,8 +129,7 @@ impl<'c, 's, R: Read + Drop, C: Fn(LeafId, &[u8]) -> Action + Copy> Stream<'c, '
         self.window.slice()
     }
 
-    /// Returns the number of bytes of the stream that were passed, saturating at the greatest
-    /// number.
+    /// Returns the number of bytes of the stream that were passed, saturating at `usize::MAX`.
     pub fn offset(&self) -> usize
         ensures { result ≡ self.now.window.offset }
     {

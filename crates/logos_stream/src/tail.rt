@@ -9,11 +9,12 @@ pub(crate) struct Tail {
     /// The length of the lexable prefix in bytes: all bytes, or in UTF-8 mode the longest prefix
     /// that is UTF-8.
     pub(crate) valid: usize,
-    /// Whether the bytes after the prefix cannot begin a character, whatever follows.
+    /// Whether the bytes after the prefix cannot begin a character, regardless of the bytes that
+    /// follow.
     pub(crate) is_at_fault: bool,
 }
 
-/// Returns the lexable prefix of `bytes`: the longest that is UTF-8 if `is_utf8` is set, and all
+/// Returns the lexable prefix of `bytes`: the longest UTF-8 prefix if `is_utf8` is `true`, and all
 /// bytes otherwise.
 pub(crate) fn tail_of(is_utf8: bool, bytes: &[u8]) -> Tail
     ensures { IsTail is_utf8 bytes.now result }
@@ -30,7 +31,7 @@ pub(crate) fn tail_of(is_utf8: bool, bytes: &[u8]) -> Tail
     }
 }
 
-/// Returns the tail of bytes that are all lexable.
+/// Returns the tail of `bytes`, which are all lexable.
 fn whole(bytes: &[u8]) -> Tail
     ensures { result ≡ record { valid = length bytes.now; is_at_fault = false } }
 {
@@ -40,8 +41,8 @@ fn whole(bytes: &[u8]) -> Tail
     }
 }
 
-/// Returns whether the offset `to` in `bytes` is between characters, or `true` if `is_utf8` is not
-/// set.
+/// Returns whether the offset `to` in `bytes` is between characters. Returns `true` if `is_utf8` is
+/// `false`.
 pub(crate) fn is_cut(is_utf8: bool, bytes: &[u8], to: usize) -> bool
     requires { to ≤ length bytes.now }
     ensures { IsTrue result ↔ (IsTrue is_utf8 → IsCharBoundary bytes.now to) }

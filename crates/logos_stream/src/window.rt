@@ -1,4 +1,5 @@
-//! The bytes of a stream that are in memory, and the offset of its lexer in them. Used by `stream`.
+//! The bytes of a stream that are in memory, and the offset at which its next match attempt begins.
+//! Used by `stream`.
 
 ghost use Rattle.std.specs.Prelude.{◌≡◌, ◌*◌, ◌<◌, ◌≤◌, [], drop, length, false, slice_range, true, IfOk, OnErr, MatchBool, IsTrue, IsUtf8, IsCharBoundary};
 ghost use Rattle.logos_stream.specs.Views.{end_of, nothing_read, start_of, unread_length, Finishes, Yields, GoesPast, IsPutOff, IsTorn, ReadsOn, StaysUnread, Waits};
@@ -11,12 +12,13 @@ use std::io;
 use std::io::Read;
 use std::marker::Model;
 
-/// The greatest number of undecided bytes that are lexed again after each read. More are lexed
-/// again only once there are twice as many, so that the time stays linear in the length of the
-/// stream.
+/// The maximum number of undecided bytes that are lexed again after each read. If there are more,
+/// they are lexed again only once their number has doubled, so that the time stays linear in the
+/// length of the stream.
 const SHORT: usize = 4096;
 
-/// The bytes of a stream that are in memory. Offsets and lengths count bytes.
+/// The bytes of a stream that are in memory. A move passes bytes, with or without an item. Offsets
+/// and lengths count bytes.
 #[derive(Drop)]
 pub(crate) struct Window<R> {
     parts: Parts<R>,
@@ -29,7 +31,7 @@ pub(crate) struct Window<R> {
     at: usize,
     /// The offset in the part at which the lexable bytes end.
     ready: usize,
-    /// Whether the bytes after the lexable ones are never lexed.
+    /// Whether the lexable bytes are the last bytes that are lexed.
     is_last: bool,
     /// The offset in the stream at which the next match attempt begins.
     offset: usize,
@@ -63,8 +65,8 @@ impl<R> Model for Window<R> {
 }
 
 impl<R: Read + Drop> Window<R> {
-    /// Returns the window on a stream of which nothing has been read. The stream is text if
-    /// `is_utf8` is set.
+    /// Returns the window on the stream of a reader, before anything is read. The stream is text if
+    /// `is_utf8` is `true`.
     ///
     /// # Errors
     ///
@@ -97,7 +99,7 @@ impl<R: Read + Drop> Window<R> {
     ///
     /// # Errors
     ///
-    /// Returns the error of the reader. The bytes that were read before stay, and `read` can be
+    /// Returns the error of the reader. The bytes that were read before remain, and `read` can be
     /// called again.
     pub(crate) fn read(&mut self) -> io::Result<()>
         requires { unread_length self.old < self.old.bound }
@@ -119,29 +121,29 @@ impl<R: Read + Drop> Window<R> {
         Ok(())
     }
 
-    /// Returns the bytes that the last move passed without an item, before its item if it has one.
+    /// Returns the bytes that the last move passed before its item, or all bytes that it passed if
+    /// it has no item.
     pub(crate) fn skipped(&self) -> &[u8]
         ensures { result.now ≡ self.now.skipped }
     {
         &self.parts.part()[self.before..self.from]
     }
 
-    /// Returns the bytes at the span of the item of the last move, or no bytes if it has no item.
+    /// Returns the bytes at the span of the last move's item, or no bytes if the move has no item.
     pub(crate) fn slice(&self) -> &[u8]
         ensures { result.now ≡ self.now.slice }
     {
         &self.parts.part()[self.from..self.at]
     }
 
-    /// Returns the number of bytes of the stream that were passed, saturating at the greatest
-    /// number.
+    /// Returns the number of bytes of the stream that were passed, saturating at `usize::MAX`.
     pub(crate) fn offset(&self) -> usize
         ensures { result ≡ self.now.offset }
     {
         self.offset
     }
 
-    /// Returns whether no bytes after the lexable ones will be lexed.
+    /// Returns whether the lexable bytes are the last bytes that are lexed.
     pub(crate) fn is_last(&self) -> bool
         ensures { result ≡ self.now.is_last }
     {
@@ -194,7 +196,7 @@ impl<R: Read + Drop> Window<R> {
         Streamed::Item(later(item, before))
     }
 
-    /// Passes the first `to` lexable bytes, which have no item, and returns `More`, or `TooLong` if
+    /// Passes the first `to` lexable bytes, which contain no item. Returns `More`, or `TooLong` if
     /// the bound leaves no room. Returns `NotUtf8`, and passes nothing, if `to` is inside a
     /// character.
     pub(crate) fn wait(&mut self, to: usize) -> Streamed
@@ -223,8 +225,8 @@ impl<R: Read + Drop> Window<R> {
         Streamed::More
     }
 
-    /// Passes the last lexable bytes, which have no item. Returns `NotUtf8` if bytes follow them,
-    /// and `End` otherwise.
+    /// Passes the remaining lexable bytes, which contain no item. Returns `NotUtf8` if other bytes
+    /// follow them, and `End` otherwise.
     pub(crate) fn finish(&mut self) -> Streamed
         requires { self.old.is_last ≡ true }
         ensures { Finishes self.old self.new result }
@@ -237,7 +239,7 @@ impl<R: Read + Drop> Window<R> {
         Streamed::End
     }
 
-    /// Returns whether bytes follow the last lexable ones.
+    /// Returns whether there are bytes after the lexable bytes.
     fn is_torn(&self) -> bool
         requires { self.now.is_last ≡ true }
         ensures { MatchBool result (IsTorn self.now)
@@ -249,7 +251,7 @@ impl<R: Read + Drop> Window<R> {
         false
     }
 
-    /// Moves past the first `to` lexable bytes. The item of the move has the span `from..to` of
+    /// Moves past the first `to` lexable bytes. The item of the move has the span `from..to` in
     /// these bytes.
     fn go_past(&mut self, from: usize, to: usize)
         requires order { from ≤ to }
@@ -280,8 +282,8 @@ fn pass_front<R: Read + Drop>(parts: &mut Parts<R>, bytes: usize)
 }
 
 /// Returns the number of bytes that must be in memory for the next match attempt, after an attempt
-/// that left `unread` bytes undecided: 0 for at most `SHORT` bytes, and otherwise twice as many, at
-/// most `bound`.
+/// that left `unread` bytes undecided. The result is 0 if `unread` is at most `SHORT`. Otherwise,
+/// it is twice `unread`, but at most `bound`.
 fn wanted_after(unread: usize, bound: usize) -> usize
     ensures most { result ≤ bound }
     ensures put_off { IsPutOff unread result }

@@ -25,8 +25,8 @@ fn keep_group<'s>(
     writer.with_tree(TokenTree::Group(inside.group(whole.delimiter, whole.span)))
 }
 
-/// Appends `tree`, a token that remains, to the writer, with the tokens inside it stripped. `rest`
-/// are the tokens after it.
+/// Appends the token `tree`, which remains, to the writer, with the tokens inside it stripped. The
+/// token is at `spot` in a run of `scope`, and `rest` are the tokens after it.
 #[cycle(walk)]
 fn keep<'s>(
     alloc: Global,

@@ -12,7 +12,7 @@ pub fn strips_once()
         bare (stripped again) ≡ bare again }
 {}
 
-/// The printed text of a stripped source spells the same tokens again, apart from their spans.
+/// The printed text of a stripped source spells the stripped tokens again, apart from their spans.
 pub fn strips_back()
     ensures { (source : List ℕ) → IsUtf8 source → (tokens : TokenList) → Spells source tokens →
         SpellsAgain (printed (stripped tokens)) (stripped tokens) }

@@ -1,5 +1,5 @@
-//! Strips an enum: removes the parts that belong to the derive macro, which are its helper
-//! attributes and its name in `derive`. `logos strip` and the expansion of files call it.
+//! Strips an enum: removes the helper attributes of the derive macro, and the macro's name in
+//! `derive`. Used by `logos strip` and the expansion of files.
 
 #![tactic(auto)]
 

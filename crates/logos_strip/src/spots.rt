@@ -1,5 +1,5 @@
-//! Determines for each token of an enum whether it is removed, by its spot. `groups` calls `goes`
-//! and `spot_after` for each token.
+//! Determines from the spot of each token of an enum whether the token is removed. `groups` calls
+//! `goes` and `spot_after` for each token.
 
 ghost use Rattle.std.specs.Prelude.{◌≡◌, ◌<◌, Some, None, MatchOption};
 ghost use Rattle.logos_strip.specs.Views.{tokens_of, tree_of, is_none, begins_gone, goes, after_part, after_start, after_hash, after_attributed, after_in_enum, after_in_attribute, spot_after, scope_of, rank};
@@ -22,8 +22,8 @@ pub enum Scope {
     Fields,
 }
 
-/// The spot of the next token in a run, which decides with its scope whether the token can be
-/// removed.
+/// The spot of the next token in a run. The spot and the run's scope determine whether the token
+/// can be removed.
 #[derive(Clone, Copy)]
 pub enum TokenSpot {
     /// The point at which an attribute, a path or an entry can begin.
@@ -38,8 +38,8 @@ pub enum TokenSpot {
     Within,
 }
 
-/// Returns whether a part that is removed begins at the start of `tokens`, where an attribute or an
-/// entry of `scope` can begin.
+/// Returns whether `tokens`, at the spot `Open` in a run of `scope`, begin with an attribute or an
+/// entry that is removed.
 fn begins_gone(scope: Scope, tokens: Tokens<'_, '_>) -> bool
     ensures { result ≡ begins_gone scope (tokens_of tokens.entry) }
 {
@@ -50,7 +50,7 @@ fn begins_gone(scope: Scope, tokens: Tokens<'_, '_>) -> bool
     }
 }
 
-/// Returns whether the first of `tokens` is removed, given its spot.
+/// Returns whether the first token of `tokens`, at `spot` in a run of `scope`, is removed.
 pub(crate) fn goes(scope: Scope, spot: TokenSpot, tokens: Tokens<'_, '_>) -> bool
     ensures { result ≡ goes scope spot (tokens_of tokens.entry) }
 {
@@ -61,8 +61,8 @@ pub(crate) fn goes(scope: Scope, spot: TokenSpot, tokens: Tokens<'_, '_>) -> boo
     }
 }
 
-/// Returns the spot after the token `tree` of a part: `Open` after a comma, joint or alone, where
-/// the next part begins, and `other` after any other token.
+/// Returns the spot after the token `tree` of a part. After a comma, joint or alone, the next part
+/// begins, and the spot is `Open`. After any other token, the spot is `other`.
 fn after_part(other: TokenSpot, tree: TokenTree<'_, '_>) -> TokenSpot
     ensures { result ≡ after_part other (tree_of tree.entry) }
 {
@@ -73,8 +73,8 @@ fn after_part(other: TokenSpot, tree: TokenTree<'_, '_>) -> TokenSpot
     }
 }
 
-/// Returns the spot after `tree`, a token that remains and is at a point where an attribute can
-/// begin. The spot is `other` after a token that is not part of an attribute.
+/// Returns the spot after the token `tree`, which remains and is at the spot `Open`. Returns
+/// `other` if the token does not begin an attribute.
 fn after_start(other: TokenSpot, tree: TokenTree<'_, '_>) -> TokenSpot
     ensures { result ≡ after_start other (tree_of tree.entry) }
 {
@@ -95,9 +95,9 @@ fn after_hash(tree: TokenTree<'_, '_>) -> TokenSpot
     }
 }
 
-/// Returns the spot after `tree`, the token at `spot` in a run whose parts can begin with
-/// attributes. `gone` is whether the token is removed, and `first` is the spot after the first
-/// token of a part that is not in an attribute.
+/// Returns the spot after the token `tree`, which is at `spot` in a run whose parts can begin with
+/// attributes. `gone` is `true` if the token is removed. `first` is the spot after the first token
+/// of a part that follows the part's attributes.
 fn after_attributed(
     first: TokenSpot,
     spot: TokenSpot,
@@ -116,8 +116,8 @@ fn after_attributed(
     }
 }
 
-/// Returns the spot after `tree`, the token at `spot` of an enum, which can begin with attributes.
-/// `gone` is whether the token is removed.
+/// Returns the spot after the token `tree`, which is at `spot` in an enum. An enum can begin with
+/// attributes. `gone` is `true` if the token is removed.
 fn after_in_enum(spot: TokenSpot, gone: bool, tree: TokenTree<'_, '_>) -> TokenSpot
     ensures { result ≡ after_in_enum spot gone (tree_of tree.entry) }
 {
@@ -127,7 +127,7 @@ fn after_in_enum(spot: TokenSpot, gone: bool, tree: TokenTree<'_, '_>) -> TokenS
     }
 }
 
-/// Returns the spot after `tree`, the token at `spot` in the brackets of an attribute.
+/// Returns the spot after the token `tree`, which is at `spot` in the brackets of an attribute.
 fn after_in_attribute(spot: TokenSpot, tree: TokenTree<'_, '_>) -> TokenSpot
     ensures { result ≡ after_in_attribute spot (tree_of tree.entry) }
 {
@@ -137,8 +137,8 @@ fn after_in_attribute(spot: TokenSpot, tree: TokenTree<'_, '_>) -> TokenSpot
     }
 }
 
-/// Returns the spot after `tree`, the token at `spot` in a run of `scope`. `gone` is whether the
-/// token is removed.
+/// Returns the spot after the token `tree`, which is at `spot` in a run of `scope`. `gone` is
+/// `true` if the token is removed.
 pub(crate) fn spot_after(
     scope: Scope,
     spot: TokenSpot,
@@ -159,7 +159,8 @@ pub(crate) fn spot_after(
 }
 
 /// Returns the part of an enum that the tokens of a group form. The group is at `spot` in `scope`,
-/// and `rest` are the tokens after it. Returns `None` if no token in the group can be removed.
+/// and `rest` are the tokens after the group. Returns `None` if no token in the group can be
+/// removed.
 pub(crate) fn scope_of(
     scope: Scope,
     spot: TokenSpot,

@@ -13,8 +13,8 @@ use logos_token::error::Memory;
 use logos_token::token::{TokenStream, Tokens, tokenize};
 use std::alloc::Global;
 
-/// Returns the tokens of a source without the parts that belong to the derive macro, or the refusal
-/// of tokens that are not an enum.
+/// Returns the tokens of a source without the parts that belong to the derive macro, or a refusal
+/// if the tokens are not an enum.
 fn strip_tokens<'s>(alloc: Global, stream: &TokenStream<'s>) -> Result<TokenStream<'s>, Refusal>
     ensures ok { IfOk result (λ left. AreStripped (stream_tokens stream.now) (stream_tokens left)) }
     ensures err { IfErr result (Refuses (EndsTokens (stream_tokens stream.now))) }
@@ -33,17 +33,17 @@ fn strip_tokens<'s>(alloc: Global, stream: &TokenStream<'s>) -> Result<TokenStre
 /// macro.
 ///
 /// The helper attributes `logos`, `token` and `regex` are removed from the enum, its variants and
-/// its fields, whatever their arguments. From each `derive` of the enum the entries `Logos`,
+/// its fields, whatever their arguments. From each `derive` of the enum, the entries `Logos`,
 /// `logos::Logos` and `::logos::Logos` are removed, each with the comma after it. Punctuation
-/// directly before a removed part becomes alone. All other tokens are unchanged, with their spans
-/// in the source.
+/// directly before a removed part gets the spacing `Alone`. All other tokens are unchanged, with
+/// their spans in the source.
 ///
 /// # Errors
 ///
 /// Returns `Errors` with the one fault that ends the reading: `LimitSource` if the source is longer
-/// than 16 MiB; `Lexical` if it cannot be split into tokens; `LimitTokenNesting` if its groups are
-/// nested too deeply; `NotAnEnum`, `Grammar`, `TypeUnsupported` or `LimitTypeNesting` if its tokens
-/// are not an enum. Returns `Memory` if memory runs out.
+/// than 16 MiB; `Lexical` if the source cannot be split into tokens; `LimitTokenNesting` if its
+/// groups are nested too deeply; `NotAnEnum`, `Grammar`, `TypeUnsupported` or `LimitTypeNesting` if
+/// its tokens are not an enum. Returns `Memory` if memory runs out.
 pub fn strip_attributes<'s>(alloc: Global, src: &'s str) -> Result<TokenStream<'s>, Refusal>
     ensures ok { IfOk result (λ left. IsStripped src.now (stream_tokens left)) }
     ensures err { IfErr result (Refuses (λ faults. (ending : Fault) × EndsReading src.now ending
@@ -59,9 +59,10 @@ pub fn strip_attributes<'s>(alloc: Global, src: &'s str) -> Result<TokenStream<'
     }
 }
 
-/// Returns the tokens that `strip_attributes` returns, given `tokens`, those of the source `src`.
-/// The source must spell an enum, such as one from which `generate` has made a lexer. The enum is
-/// not read again.
+/// Returns the tokens of the enum that the source `src` spells, without the parts that belong to
+/// the derive macro, as `strip_attributes` does. `tokens` are the tokens of the source. The source
+/// must spell an enum, such as an enum from which `generate` has made a lexer. The enum is not read
+/// again.
 ///
 /// # Errors
 ///

@@ -8,13 +8,13 @@ use logos_token::error::Memory;
 use logos_token::token::{Punct, Spacing, TokenStream, TokenTree};
 use std::alloc::Global;
 
-/// A writer of trees, with the trees that it has received.
+/// A writer of trees, with the trees that were written.
 #[derive(Drop)]
 pub(crate) struct Writer<'s> {
-    /// All trees that were written, without `held`.
+    /// All written trees except `held`.
     stream: TokenStream<'s>,
-    /// The last tree, if it is punctuation. It becomes alone if the token directly after it is
-    /// removed.
+    /// The last tree, if it is punctuation. The punctuation gets the spacing `Alone` if the token
+    /// directly after it is removed.
     held: Option<Punct>,
 }
 
@@ -57,7 +57,8 @@ impl<'s> Writer<'s> {
         }
     }
 
-    /// Skips the next tree, which is removed: punctuation directly before it becomes alone.
+    /// Skips the next tree, which is removed. Punctuation directly before the tree gets the spacing
+    /// `Alone`.
     pub(crate) fn without_tree(self) -> Result<Writer<'s>, Memory>
         ensures { IfOk result (λ writer. (pieces : List (Option Token)) →
             completed writer pieces ≡ completed self.entry (None ∷ pieces)) }

@@ -1,5 +1,5 @@
-//! The stack of open groups, which builds the tree of a pattern while the pattern is read. The
-//! parser adds each token to the stack.
+//! The stack of open groups. It builds the tree of a pattern while the pattern is read. The parser
+//! adds each token to the stack.
 
 ghost use Rattle.std.specs.Prelude.{◌≤◌, ◌≡◌, ◌+◌, ◌<◌, length, map, IfOk, OnOk, Some, unwrap_or, vec_len};
 ghost use Rattle.logos_syntax.specs.Imports.{pattern_nesting, tree_of, simplest_tree, flags_after, opening_view, token_view, closes, opens, repeats, sets, bracketed, atom as token_atom, Bracket, set_of, bracket_set, bracket_depth, inner_flags, captures, group_tree, is_greedy};
@@ -13,8 +13,8 @@ use logos_pattern_tokens::token::{Atom, Change, Flags, GroupOpening, Operator, T
 use std::alloc::{AllocError, Global};
 use std::mem;
 
-/// A tree, the depth of its innermost point in the whole pattern, and the number of characters from
-/// its start to the end of the text.
+/// A part of a group: its tree, the depth of its innermost point in the whole pattern, and the
+/// number of characters from its start to the end of the text.
 #[derive(Drop)]
 pub(crate) struct GroupPart {
     tree: Hir,
@@ -23,7 +23,7 @@ pub(crate) struct GroupPart {
     ghost shallow: { depth ≤ pattern_nesting },
 }
 
-/// The inside of an open group, as far as it has been read.
+/// The part of an open group that has been read so far.
 #[derive(Drop)]
 pub(crate) struct OpenedGroup {
     flags: Flags,
@@ -40,23 +40,23 @@ pub(crate) struct OpenedGroup {
     ghost shallow: { inner ≤ pattern_nesting },
 }
 
-/// The groups that are open, the innermost on top. The outermost one is the whole pattern.
+/// The open groups, with the innermost group on top. The outermost group is the whole pattern.
 #[derive(Drop)]
 pub(crate) struct Groups {
     top: OpenedGroup,
-    /// The groups around the innermost one, the outermost first.
+    /// The groups around the innermost group, with the outermost group first.
     below: Vec<OpenedGroup>,
     ghost shallow: { vec_len below ≤ pattern_nesting },
 }
 
-/// Returns the flag `flag` after a setting that turns it on or off, or leaves it unchanged.
+/// Returns the setting of a flag in `change`, or `flag` if `change` is `None`.
 fn set_or(change: Option<bool>, flag: bool) -> bool
     ensures { result ≡ unwrap_or change flag }
 {
     change.unwrap_or(flag)
 }
 
-/// Returns the flags `flags` after the flag setting `change`.
+/// Applies the flag setting `change` to `flags`, and returns the new flags.
 fn flags_after(change: Change, flags: Flags) -> Flags
     ensures { result ≡ flags_after change flags }
 {
@@ -70,7 +70,7 @@ fn flags_after(change: Change, flags: Flags) -> Flags
     }
 }
 
-/// Returns the flags at the start of a group's inside.
+/// Returns the flags at the start of the inside of a group. `flags` are the flags before the group.
 fn inner_flags(opening: GroupOpening<'_>, flags: Flags) -> Flags
     ensures { result ≡ inner_flags (opening_view opening.entry) flags }
 {
@@ -97,7 +97,7 @@ fn is_greedy(flags: Flags, op: Operator) -> bool
     if flags.swap_greed { op.lazy } else { !op.lazy }
 }
 
-/// Returns the tree of a group around `tree`: a capture group if `captured`, and `tree` otherwise.
+/// Returns a capture group around `tree` if `captured` is `true`, and `tree` otherwise.
 fn group_tree(alloc: Global, captured: bool, tree: Hir) -> Result<Hir, AllocError>
     ensures { IfOk result (λ hir. simplest_tree hir ≡ group_tree captured (simplest_tree tree)) }
 {
@@ -111,8 +111,8 @@ impl OpenedGroup {
     ghost use Rattle.logos_syntax.specs.Views.{pattern_nesting, Group, fresh, all_parts, put, set, next_branch, all_branches, whole_tree, repeat, part_view, group_view, Repeats};
 
     /// Returns a group of which only the opening has been read. `level` is the number of groups
-    /// around its inside, and `left` the number of characters from its opening to the end of the
-    /// text.
+    /// around the inside of the group, and `left` the number of characters from the opening to the
+    /// end of the text.
     fn new(alloc: Global, flags: Flags, captured: bool, level: usize, left: usize) -> OpenedGroup
         requires { level ≤ pattern_nesting }
         ensures { group_view result ≡ fresh flags captured level }
@@ -128,8 +128,8 @@ impl OpenedGroup {
         }
     }
 
-    /// Moves the part that an operator could repeat, if there is one, to the parts that none can
-    /// repeat.
+    /// Moves the part in `last`, if there is one, to `parts`. No operator can repeat the part
+    /// afterwards.
     fn settle(&mut self) -> Result<(), AllocError>
         ensures { OnOk result (group_view self.new ≡ set (group_view self.old) self.old.flags) }
     {
@@ -139,7 +139,7 @@ impl OpenedGroup {
         Ok(())
     }
 
-    /// Adds a part after the others, which an operator could repeat next.
+    /// Adds `part` to the end of the group. An operator that follows would repeat `part`.
     fn put(&mut self, part: GroupPart) -> Result<(), AllocError>
         ensures { OnOk result (group_view self.new ≡ put (group_view self.old) (part_view part)) }
     {
@@ -149,7 +149,8 @@ impl OpenedGroup {
         Ok(())
     }
 
-    /// Sets the flags for the rest of the group. No operator can repeat the part before them.
+    /// Sets the flags for the rest of the group. No operator can repeat the part before the flag
+    /// setting.
     fn set(&mut self, flags: Flags) -> Result<(), AllocError>
         ensures { OnOk result (group_view self.new ≡ set (group_view self.old) flags) }
     {
@@ -158,7 +159,7 @@ impl OpenedGroup {
         Ok(())
     }
 
-    /// Ends the branch that is being read, and begins another one.
+    /// Ends the current branch, and begins the next branch.
     fn next_branch(&mut self) -> Result<(), AllocError>
         ensures { OnOk result (group_view self.new ≡ next_branch (group_view self.old)) }
     {
@@ -169,7 +170,7 @@ impl OpenedGroup {
         Ok(())
     }
 
-    /// Returns the unsimplified tree of the group, as if the group ended here.
+    /// Returns the unsimplified tree of the group as if the group ended at this point.
     fn finish(mut self, alloc: Global) -> Result<Hir, AllocError>
         ensures { IfOk result (λ hir. simplest_tree hir ≡ whole_tree (group_view self)) }
     {
@@ -178,8 +179,8 @@ impl OpenedGroup {
         group_tree(alloc, captured, simplifier::either(self.branches))
     }
 
-    /// Repeats the part that was added last. `left` is the number of characters from the operator
-    /// to the end of the text.
+    /// Applies the repetition operator `op` to the part that was added last. `left` is the number
+    /// of characters from the operator to the end of the text.
     ///
     /// # Errors
     ///
@@ -212,8 +213,8 @@ impl Groups {
     ghost use Rattle.std.specs.Prelude.{[]};
     ghost use Rattle.logos_syntax.specs.Views.{pattern_nesting, State, start, whole_tree, step, state_view, Steps, Ends};
 
-    /// Returns the stack at the start of a pattern of `left` characters, at which the flags `flags`
-    /// are on.
+    /// Returns the stack at the start of a pattern of `left` characters. The flags `flags` are on
+    /// at this point.
     pub(crate) fn new(alloc: Global, flags: Flags, left: usize) -> Groups
         ensures { state_view result ≡ start flags }
     {
@@ -230,7 +231,7 @@ impl Groups {
         self.top.flags
     }
 
-    /// Returns the number of groups that are open, without the whole pattern.
+    /// Returns the number of open groups, not counting the whole pattern.
     pub(crate) fn depth(&self) -> usize
         ensures depth { result ≡ length (state_view self.now).below }
         ensures shallow { result ≤ pattern_nesting }
@@ -239,7 +240,7 @@ impl Groups {
     }
 
     /// Returns the number of characters from the opening of the innermost open group to the end of
-    /// the text, or from the start of the pattern if no group is open.
+    /// the text, or the length of the text if no group is open.
     pub(crate) fn opening(&self) -> usize {
         self.top.left
     }
@@ -296,8 +297,8 @@ impl Groups {
         Ok(())
     }
 
-    /// Opens a group inside the innermost one. `left` is the number of characters from the group's
-    /// opening to the end of the text.
+    /// Opens a group inside the innermost group. `left` is the number of characters from the
+    /// group's opening to the end of the text.
     ///
     /// # Errors
     ///
@@ -341,7 +342,7 @@ impl Groups {
         Ok(())
     }
 
-    /// Changes the flags for the rest of the innermost group.
+    /// Applies the flag setting `change` to the rest of the innermost group.
     fn setting(&mut self, change: Change) -> Result<(), Stop>
         ensures { Steps (state_view self.old) (sets change) result (state_view self.new) }
     {
@@ -349,7 +350,8 @@ impl Groups {
         Ok(self.top.set(flags)?)
     }
 
-    /// Repeats the last part of the innermost group.
+    /// Applies the repetition operator `op` to the last part of the innermost group. `left` is the
+    /// number of characters from the operator to the end of the text.
     ///
     /// # Errors
     ///
@@ -365,8 +367,8 @@ impl Groups {
     ///
     /// # Errors
     ///
-    /// Returns the fault of the token after the tokens before it, `LimitPatternNesting` if it is
-    /// nested too deeply, or `Memory` if memory runs out.
+    /// Returns the fault of the token if it is not allowed after the preceding tokens,
+    /// `LimitPatternNesting` if it is nested too deeply, or `Memory` if memory runs out.
     pub(crate) fn step(&mut self, alloc: Global, token: Token<'_>, left: usize) -> Result<(), Stop>
         ensures { Steps (state_view self.old) (token_view token.entry) result
             (state_view self.new) }

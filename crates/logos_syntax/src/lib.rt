@@ -1,4 +1,4 @@
-//! Parses the text of a pattern into its tree, as the grammar defines it. `logos_pattern` calls
+//! Parses the text of a pattern into the tree that the grammar defines. `logos_pattern` calls
 //! `parse` for each pattern.
 
 #![tactic(auto)]

@@ -12,7 +12,7 @@ use logos_pattern_tokens::reader::token_at;
 use logos_pattern_tokens::token::Flags;
 use std::alloc::{AllocError, Global};
 
-/// The state of reading a pattern: the groups that are open, and the names of groups so far.
+/// The state of a pattern parser: the open groups, and the group names that have been read so far.
 #[derive(Drop)]
 pub(crate) struct PatternParser {
     groups: Groups,
@@ -20,8 +20,8 @@ pub(crate) struct PatternParser {
 }
 
 impl PatternParser {
-    /// Returns a parser at the front of a text of `left` characters, at which the flags `flags` are
-    /// on.
+    /// Returns a parser at the start of a text of `left` characters. The flags `flags` are on at
+    /// this point.
     fn new(alloc: Global, flags: Flags, left: usize) -> PatternParser
         ensures groups { state_view result.groups ≡ start flags }
         ensures names { HasNames result.names [] }
@@ -46,9 +46,10 @@ impl PatternParser {
         }
     }
 
-    /// Returns the stop for a fault of counts, whose brace is `left` characters before the end of
-    /// the text. The fault is at the start of the part that the counts would repeat, but at the
-    /// brace if the brace is not closed or if there is nothing to repeat.
+    /// Returns the stop for the fault `kind` of a repetition operator with counts. `left` is the
+    /// number of characters from the operator's brace to the end of the text. The fault is at the
+    /// start of the part that the operator would repeat. If the brace is not closed, the fault is
+    /// at the brace. If there is nothing to repeat, the fault is `NothingToRepeat` at the brace.
     fn count_stop(&self, kind: Kind, left: usize) -> Stop
         ensures { IsStopOf (Fault.Syntax kind) result }
     {
@@ -62,8 +63,8 @@ impl PatternParser {
         }
     }
 
-    /// Reads a bracket from the text after its `[`, adds it to the innermost group, and returns the
-    /// rest of the text.
+    /// Reads a bracket from the text after its `[`, and adds the bracket to the innermost group.
+    /// Returns the rest of the text.
     ///
     /// # Errors
     ///
@@ -84,8 +85,8 @@ impl PatternParser {
         Ok(rest)
     }
 
-    /// Reads a token that does not begin a bracket, adds it to the groups, and returns the rest of
-    /// the text.
+    /// Reads a token that does not begin a bracket, and adds the token to the groups. Returns the
+    /// rest of the text.
     ///
     /// # Errors
     ///
@@ -112,8 +113,8 @@ impl PatternParser {
         Ok(rest)
     }
 
-    /// Reads the token or the bracket at the front, adds it to the groups, and returns the rest of
-    /// the text.
+    /// Reads the token or the bracket at the front of the text, and adds it to the groups. Returns
+    /// the rest of the text.
     ///
     /// # Errors
     ///
@@ -134,8 +135,8 @@ impl PatternParser {
     }
 }
 
-/// Returns the kind of a fault of the group's opening at the front of `text`: `GroupSyntax` for
-/// look-around, and `kind` otherwise.
+/// Returns `GroupSyntax` if `text` begins with the opening of a look-around group, `(?=` or `(?!`,
+/// and `kind` otherwise.
 fn group_kind(kind: Kind, text: &[char]) -> Kind {
     match text {
         ['(', '?', '=' | '!', ..] => Kind::GroupSyntax,
@@ -143,7 +144,7 @@ fn group_kind(kind: Kind, text: &[char]) -> Kind {
     }
 }
 
-/// Reads the whole text as a pattern, and returns its tree.
+/// Reads the whole text as a pattern, and returns the tree of the pattern.
 ///
 /// # Errors
 ///
@@ -165,7 +166,7 @@ fn run(alloc: Global, flags: Flags, text: &[char]) -> Result<Hir, Stop>
     parser.groups.finish(alloc)
 }
 
-/// Returns the number of bytes that the characters take in UTF-8.
+/// Returns the length of the characters in UTF-8, in bytes.
 fn byte_len(text: &[char]) -> usize {
     let mut len: usize = 0;
     for c in text {
@@ -199,19 +200,20 @@ fn error_at(text: &[char], stop: Stop) -> PatternError
     }
 }
 
-/// Returns the characters of the text.
+/// Returns the characters of the text `regex`.
 fn characters(alloc: Global, regex: &str) -> Result<Vec<char>, AllocError>
     ensures { IfOk result (λ v. v.items ≡ chars regex.now) }
 {
     regex.chars().collect(alloc)
 }
 
-/// Reads a pattern with the flags that are on at its start, and returns its tree.
+/// Reads a pattern, and returns its tree. `flags` are the flags that are on at the start of the
+/// pattern.
 ///
 /// # Errors
 ///
-/// Returns `Syntax` if the text breaks the grammar, with the kind and the byte offset of the fault;
-/// `LimitPatternNesting` if groups, brackets and operators are nested more than 250 deep; and
+/// Returns `Syntax` with the kind and the byte offset of the fault if the text breaks the grammar,
+/// `LimitPatternNesting` if groups, brackets and operators are nested more than 250 deep, and
 /// `Memory` if memory runs out.
 pub fn parse(alloc: Global, flags: Flags, regex: &str) -> Result<Hir, PatternError>
     ensures found { IfOk result (λ hir. IsFound flags (chars regex.now) (tree_of hir)) }
@@ -229,7 +231,7 @@ pub fn parse(alloc: Global, flags: Flags, regex: &str) -> Result<Hir, PatternErr
     }
 }
 
-/// A text has at most one tree.
+/// With the same flags, a text has at most one tree.
 pub fn one_tree()
     ensures { (flags : FlagsValue) (text : Text) (a b : Tree) (m n : ℕ) → Spells flags text a m →
         Spells flags text b n → (a ≡ b) × (m ≡ n) }

@@ -1,4 +1,4 @@
-//! Turns atoms into trees. The stack of groups calls it for each atom.
+//! Turns atoms into trees. The stack of groups calls `atom_tree` for each atom.
 
 ghost use Rattle.std.specs.Prelude.{◌≡◌, ◌==◌, IfOk, encode_utf8, if◌then◌else◌};
 ghost use Rattle.logos_syntax.specs.Imports.{literal, tree_of, only_chars, set_of, set_or_complement, case_closure, one_of, same_as, character_tree, byte_tree, dot_set, start_look, end_look, atom_tree, atom_fits};
@@ -11,8 +11,8 @@ use logos_hir::sets::RangeSet;
 use logos_pattern_tokens::token::{Atom, Flags};
 use std::alloc::{AllocError, Global};
 
-/// Returns the tree that matches one character of the set, or one byte of it if the pattern matches
-/// bytes.
+/// Returns the tree that matches one character of the set, or one byte of the set if the pattern
+/// matches bytes.
 pub(crate) fn one_of(alloc: Global, flags: Flags, set: RangeSet) -> Result<Hir, AllocError>
     ensures { IfOk result (λ hir. tree_of hir ≡ one_of flags (set_of set)) }
 {
@@ -22,8 +22,8 @@ pub(crate) fn one_of(alloc: Global, flags: Flags, set: RangeSet) -> Result<Hir, 
     builder::byte_class(alloc, set)
 }
 
-/// Returns the set that contains only the number `code`. If `i` is on, it also contains the numbers
-/// that differ from `code` only in case.
+/// Returns the set that contains only the number `code`. If the flag `i` is on, the set also
+/// contains the numbers that differ from `code` only in case.
 fn same_as(alloc: Global, flags: Flags, code: u32) -> Result<RangeSet, AllocError>
     ensures { IfOk result (λ set. set_of set ≡ same_as flags code) }
 {
@@ -31,7 +31,7 @@ fn same_as(alloc: Global, flags: Flags, code: u32) -> Result<RangeSet, AllocErro
     case_closure(alloc, flags, only)
 }
 
-/// Returns the tree of a character's bytes.
+/// Returns the tree that matches the UTF-8 encoding of a character.
 fn encoding(alloc: Global, c: char) -> Result<Hir, AllocError>
     ensures { IfOk result (λ hir. tree_of hir ≡ literal (encode_utf8 c)) }
 {
@@ -40,8 +40,8 @@ fn encoding(alloc: Global, c: char) -> Result<Hir, AllocError>
     Ok(Hir::Literal(Vec::from_slice(alloc, bytes)?))
 }
 
-/// Returns the tree of a character, in both cases if `i` is on. If the pattern matches bytes, only
-/// ASCII letters match in both cases.
+/// Returns the tree that matches a character, in both cases if the flag `i` is on. If the pattern
+/// matches bytes, only ASCII letters match in both cases.
 fn character(alloc: Global, flags: Flags, c: char) -> Result<Hir, AllocError>
     ensures { IfOk result (λ hir. tree_of hir ≡ character_tree flags c) }
 {
@@ -51,8 +51,8 @@ fn character(alloc: Global, flags: Flags, c: char) -> Result<Hir, AllocError>
     encoding(alloc, c)
 }
 
-/// Returns the tree of a byte, or of the character with its number if the pattern matches
-/// characters. It matches in both cases if `i` is on.
+/// Returns the tree that matches a byte, or the character with the number `b` if the pattern
+/// matches characters. The tree matches in both cases if the flag `i` is on.
 fn byte(alloc: Global, flags: Flags, b: u8) -> Result<Hir, AllocError>
     ensures { IfOk result (λ hir. tree_of hir ≡ byte_tree flags b) }
 {
@@ -65,8 +65,8 @@ fn byte(alloc: Global, flags: Flags, b: u8) -> Result<Hir, AllocError>
     Ok(Hir::Literal(Vec::from_slice(alloc, &[b])?))
 }
 
-/// Returns the set of a dot: all characters but LF, and but CR if `R` is on, or all characters if
-/// `s` is on.
+/// Returns the set of the characters that `.` matches: all characters if the flag `s` is on, all
+/// except LF and CR if the flag `R` is on, and all except LF otherwise.
 fn dot_set(alloc: Global, flags: Flags) -> Result<RangeSet, AllocError>
     ensures { IfOk result (λ set. set_of set ≡ dot_set flags) }
 {
@@ -81,7 +81,7 @@ fn dot_set(alloc: Global, flags: Flags) -> Result<RangeSet, AllocError>
     RangeSet::from_ranges(alloc, &[Range::new(0, 9), Range::new(11, last)])
 }
 
-/// Returns the look-around assertion of `^`.
+/// Returns the look-around assertion that `^` denotes.
 fn start_look(flags: Flags) -> Look
     ensures { result ≡ start_look flags }
 {
@@ -92,7 +92,7 @@ fn start_look(flags: Flags) -> Look
     }
 }
 
-/// Returns the look-around assertion of `$`.
+/// Returns the look-around assertion that `$` denotes.
 fn end_look(flags: Flags) -> Look
     ensures { result ≡ end_look flags }
 {
@@ -103,7 +103,7 @@ fn end_look(flags: Flags) -> Look
     }
 }
 
-/// Returns the look-around assertion of a word boundary, or of its negation.
+/// Returns the look-around assertion of a word boundary, or of its negation if `negated` is `true`.
 fn boundary(negated: bool) -> Look
     ensures { result ≡ (if negated then Look.WordAsciiNegate else Look.WordAscii) }
 {
@@ -114,8 +114,9 @@ fn boundary(negated: bool) -> Look
     }
 }
 
-/// Returns the tree that matches one member of the class `set`, with its other cases if `i` is on,
-/// or one member of the complement if `negated`.
+/// Returns the tree that matches one member of the class `set`, or one member of its complement if
+/// `negated` is `true`. If the flag `i` is on, the class also contains the other cases of its
+/// members.
 fn class(alloc: Global, flags: Flags, negated: bool, set: RangeSet) -> Result<Hir, AllocError>
     ensures { IfOk result (λ hir. tree_of hir ≡
         one_of flags (set_or_complement flags negated (case_closure flags (set_of set)))) }
@@ -128,7 +129,7 @@ fn class(alloc: Global, flags: Flags, negated: bool, set: RangeSet) -> Result<Hi
     )
 }
 
-/// Returns the tree of an atom with these flags.
+/// Returns the tree that an atom denotes under the flags `flags`.
 pub(crate) fn atom_tree(alloc: Global, flags: Flags, atom: Atom) -> Result<Hir, AllocError>
     ensures { IfOk result (λ hir. tree_of hir ≡ atom_tree flags atom) }
 {

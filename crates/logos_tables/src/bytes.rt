@@ -1,4 +1,4 @@
-//! Prints numbers as the bytes of a byte string. Called by `fields`.
+//! Prints numbers as the text of a byte string. Called by `fields`.
 
 ghost use Rattle.std.specs.Prelude.{◌≡◌, ◌++◌, OnOk, string_bytes};
 ghost use Rattle.logos_tables.specs.Imports.{flat_map, are_at_most, byte_text, entries_text, entry_text, size_number};
@@ -6,8 +6,7 @@ ghost use Rattle.logos_tables.specs.Imports.{flat_map, are_at_most, byte_text, e
 use logos_byte_class::text::{is_printable, letter_of, lower_digit};
 use logos_token::error::Memory;
 
-/// Returns the number of bytes for each of the numbers: the least of 1, 2, 4 and 8 that is enough
-/// for all of them.
+/// Returns the least of 1, 2, 4 and 8 bytes in which each of `numbers` fits.
 pub(crate) fn size_of(numbers: &[usize]) -> usize
     ensures { result ≡ size_number numbers.now }
 {
@@ -23,7 +22,7 @@ pub(crate) fn size_of(numbers: &[usize]) -> usize
     8
 }
 
-/// Returns whether no number is above `most`.
+/// Returns whether no element of `numbers` is greater than `most`.
 fn are_at_most(numbers: &[usize], most: usize) -> bool
     ensures { result ≡ are_at_most most numbers.now }
 {
@@ -35,7 +34,7 @@ fn are_at_most(numbers: &[usize], most: usize) -> bool
     true
 }
 
-/// Appends numbers as the text of a byte string, each with `size` bytes.
+/// Appends `numbers` as the text of a byte string, with `size` bytes for each number.
 pub(crate) fn push_entries(text: &mut String, size: usize, numbers: &[usize]) -> Result<(), Memory>
     ensures { OnOk result (string_bytes text.new
         ≡ string_bytes text.old ++ entries_text size numbers.now) }
@@ -46,7 +45,7 @@ pub(crate) fn push_entries(text: &mut String, size: usize, numbers: &[usize]) ->
     Ok(())
 }
 
-/// Appends the lowest `size` bytes of a number, the lowest byte first.
+/// Appends the lowest `size` bytes of `number`, beginning with the lowest byte.
 fn push_entry(text: &mut String, size: usize, number: usize) -> Result<(), Memory>
     ensures { OnOk result (string_bytes text.new ≡ string_bytes text.old ++ entry_text size number) }
 {
@@ -60,7 +59,7 @@ fn push_entry(text: &mut String, size: usize, number: usize) -> Result<(), Memor
     Ok(())
 }
 
-/// Appends a byte as it is written in a byte string.
+/// Appends `byte` as it is written in a byte string.
 fn push_byte(text: &mut String, byte: u8) -> Result<(), Memory>
     ensures { OnOk result (string_bytes text.new ≡ string_bytes text.old ++ byte_text byte) }
 {

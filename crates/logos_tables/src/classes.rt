@@ -1,5 +1,5 @@
-//! Computes the classes of symbols: all symbols of a class have the same step in each state. Called
-//! by `made`, and `runs` reads rows by class.
+//! Computes the equivalence classes of symbols. All symbols of a class have the same step in each
+//! state. `made` calls `classes_of`, and `runs` reads rows by class.
 
 ghost use Rattle.std.specs.Prelude.{◌≡◌, ◌+◌, ◌<◌, IfOk, IfSome, OnOk, IsTrue, slice_index};
 ghost use Rattle.logos_tables.specs.Imports.{AreClasses, Classify, IsClassOf, HaveSameSteps};
@@ -7,16 +7,17 @@ ghost use Rattle.logos_tables.specs.Imports.{AreClasses, Classify, IsClassOf, Ha
 use crate::steps::Steps;
 use std::alloc::{AllocError, Global};
 
-/// The classes of symbols, which are the bytes and the end of the input.
+/// The equivalence classes of symbols. A symbol is a byte or the end of the input.
 #[derive(Drop)]
 pub(crate) struct SymbolClasses {
-    /// The class of each symbol.
+    /// The number of each symbol's class.
     pub(crate) numbers: Vec<usize>,
     /// The first symbol of each class.
     pub(crate) symbols: Vec<usize>,
 }
 
-/// Returns the classes of all symbols. Symbols of one class have the same step in each of the rows.
+/// Returns the equivalence classes of all symbols. All symbols of a class have the same step in
+/// each row of `rows`.
 ///
 /// # Errors
 ///
@@ -34,8 +35,8 @@ pub(crate) fn classes_of(alloc: Global, rows: &[Steps]) -> Result<SymbolClasses,
     Ok(classes)
 }
 
-/// Appends the class of `symbol` to `classes`: the class of earlier symbols with the same steps, or
-/// a new class if there is none.
+/// Appends the class of `symbol` to `classes`. If no earlier symbol has the same steps, adds a new
+/// class.
 fn add_symbol(rows: &[Steps], classes: &mut SymbolClasses, symbol: usize) -> Result<(), AllocError>
     requires { Classify rows.now classes.old.numbers.items classes.old.symbols.items symbol }
     ensures { OnOk result (Classify rows.now classes.new.numbers.items classes.new.symbols.items
@@ -50,8 +51,8 @@ fn add_symbol(rows: &[Steps], classes: &mut SymbolClasses, symbol: usize) -> Res
     Ok(())
 }
 
-/// Returns the class whose symbol has the same step as `symbol` in each of the rows, or `None` if
-/// there is no such class.
+/// Returns the number of the class whose first symbol has the same step as `symbol` in each of the
+/// rows, or `None` if there is no such class. `symbols` contains the first symbol of each class.
 fn class_of(rows: &[Steps], symbols: &[usize], symbol: usize) -> Option<usize>
     ensures { IfSome result (IsClassOf rows.now symbols.now symbol) }
 {
@@ -63,7 +64,7 @@ fn class_of(rows: &[Steps], symbols: &[usize], symbol: usize) -> Option<usize>
     None
 }
 
-/// Returns whether two symbols have the same step in each of the rows.
+/// Returns whether the symbols `one` and `other` have the same step in each of the rows.
 fn have_same_steps(rows: &[Steps], one: usize, other: usize) -> bool
     ensures { IsTrue result → HaveSameSteps rows.now one other }
 {

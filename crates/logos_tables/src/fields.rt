@@ -1,4 +1,4 @@
-//! Prints lists of numbers as fields of the tables. Called by `lexer` and `parts`.
+//! Prints lists of numbers as fields of the tables. Called by `lexer`. `parts` calls `push_str`.
 
 ghost use Rattle.std.specs.Prelude.{◌≡◌, ◌++◌, ◌∷◌, [], OnOk, map, string_bytes};
 ghost use Rattle.logos_tables.specs.Imports.{Appends, field_head, field_text, runs_texts};
@@ -8,7 +8,7 @@ use crate::runs::{Run, lengths_of, steps_in};
 use logos_token::error::Memory;
 use std::alloc::Global;
 
-/// Appends a field with this name and these numbers.
+/// Appends a field with the name `name` and the numbers `numbers`.
 pub(crate) fn push_field(text: &mut String, name: &str, numbers: &[usize]) -> Result<(), Memory>
     ensures { OnOk result (Appends (field_text name.now numbers.now ∷ []) (string_bytes text.old)
         (string_bytes text.new)) }
@@ -17,8 +17,8 @@ pub(crate) fn push_field(text: &mut String, name: &str, numbers: &[usize]) -> Re
     Ok(())
 }
 
-/// Appends the text of a field: its name, the number of bytes for each of its numbers, and the
-/// bytes of all numbers.
+/// Appends the text of a field: its name, the number of bytes of each of its numbers, and the bytes
+/// of all numbers.
 fn push_whole_field(text: &mut String, name: &str, numbers: &[usize]) -> Result<(), Memory>
     ensures { OnOk result (string_bytes text.new
         ≡ string_bytes text.old ++ field_text name.now numbers.now) }
@@ -30,7 +30,7 @@ fn push_whole_field(text: &mut String, name: &str, numbers: &[usize]) -> Result<
     Ok(())
 }
 
-/// Appends the name of a field, and the number of bytes for each of its numbers.
+/// Appends the beginning of a field: its name, and the number of bytes of each of its numbers.
 fn push_head(text: &mut String, name: &str, size: usize) -> Result<(), Memory>
     ensures { OnOk result (string_bytes text.new
         ≡ string_bytes text.old ++ field_head name.now size) }
@@ -39,7 +39,8 @@ fn push_head(text: &mut String, name: &str, size: usize) -> Result<(), Memory>
     Ok(())
 }
 
-/// Appends two fields: the lengths of runs, and the number that each run repeats.
+/// Appends two fields: one with the lengths of `runs`, and one with the number that each run
+/// repeats.
 pub(crate) fn push_runs(
     alloc: Global,
     text: &mut String,
@@ -73,7 +74,7 @@ fn push_steps(alloc: Global, text: &mut String, name: &str, runs: &[Run]) -> Res
     push_field(text, name, &steps)
 }
 
-/// Appends `part` to the text.
+/// Appends `part` to `text`.
 pub(crate) fn push_str(text: &mut String, part: &str) -> Result<(), Memory>
     ensures { OnOk result (string_bytes text.new ≡ string_bytes text.old ++ part.now) }
 {

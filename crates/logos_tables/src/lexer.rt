@@ -1,4 +1,4 @@
-//! Prints a lexer as tables. Called by `shape` for the shape `tables`.
+//! Prints a table-driven lexer. Called by `shape` for the shape `tables`.
 
 ghost use Rattle.std.specs.Prelude.{◌∷◌, [], IfOk, OnOk, length, string_bytes};
 ghost use Rattle.logos_tables.specs.Views.{Appends, AppendsMade, AppendsNumbers, AppendsTables, ArePrinted, HoldsTables, around_made, front_runs, marks_text, skips_text, step_texts};
@@ -17,10 +17,12 @@ use logos_token::error::Memory;
 use logos_type::print_type;
 use std::alloc::Global;
 
-/// Returns the Rust text of an implementation of `Logos` for the enum, with the pieces of the
-/// source in it. Its lexing function has tables for the loop of the runtime. The tables hold the
-/// step of each byte, and of the end of the input, in each state of the code, and the mark of each
-/// state.
+/// Returns the Rust text of an implementation of `Logos` for the enum, and the pieces of the source
+/// in this text.
+///
+/// The lexing function of the implementation contains tables for the loop of the runtime. The
+/// tables contain the mark of each state of the code. They also contain the step of each byte, and
+/// of the end of the input, in each state.
 ///
 /// # Errors
 ///
@@ -38,7 +40,8 @@ pub fn tables(alloc: Global, made: &Generated<'_>) -> Result<Sink, Memory>
     Ok(sink)
 }
 
-/// Appends the implementation of `Tables`, and the rest of the function that lexes, to the front.
+/// Appends the implementation of `Tables` and the rest of the lexing function to the front of the
+/// generated code.
 fn push_implementation(alloc: Global, text: &mut String, code: &Code<'_>) -> Result<(), Memory>
     ensures { OnOk result (AppendsTables code.now (string_bytes text.old) (string_bytes text.new)) }
 {
@@ -49,7 +52,7 @@ fn push_implementation(alloc: Global, text: &mut String, code: &Code<'_>) -> Res
     Ok(())
 }
 
-/// Appends all tables of a code, and the constants that are computed from them.
+/// Appends all tables of a code, and the constants that are computed from these tables.
 fn push_code(alloc: Global, text: &mut String, code: &Code<'_>) -> Result<(), Memory>
     ensures { OnOk result (AppendsMade code.now (string_bytes text.old) (string_bytes text.new)) }
 {
@@ -73,7 +76,7 @@ fn push_steps(alloc: Global, text: &mut String, made: &PrintedTables) -> Result<
     Ok(())
 }
 
-/// Appends the table with the mark of each state.
+/// Appends the table of the marks of all states.
 fn push_marks(alloc: Global, text: &mut String, code: &Code<'_>) -> Result<(), Memory>
     ensures { OnOk result (Appends (marks_text code.now ∷ []) (string_bytes text.old)
         (string_bytes text.new)) }
@@ -82,7 +85,8 @@ fn push_marks(alloc: Global, text: &mut String, code: &Code<'_>) -> Result<(), M
     push_field(text, "marks", &marks)
 }
 
-/// Appends the flags of the leaves that are skipped.
+/// Appends the table with a number for each leaf: 1 if its matches are skipped without a callback,
+/// and 0 otherwise.
 fn push_skips(alloc: Global, text: &mut String, code: &Code<'_>) -> Result<(), Memory>
     ensures { OnOk result (Appends (skips_text code.now ∷ []) (string_bytes text.old)
         (string_bytes text.new)) }
@@ -91,8 +95,8 @@ fn push_skips(alloc: Global, text: &mut String, code: &Code<'_>) -> Result<(), M
     push_field(text, "skips", &skips)
 }
 
-/// Appends the end of the tables, and the constants that are computed from them. `leaves` is the
-/// number of leaves.
+/// Appends the end of the tables, and the constants that are computed from the tables. `leaves` is
+/// the number of leaves.
 fn push_numbers(text: &mut String, made: &PrintedTables, leaves: usize) -> Result<(), Memory>
     ensures { OnOk result (AppendsNumbers (length made.now.rows.slots.items)
         (length made.now.runs.items) (string_bytes text.old) (string_bytes text.new)) }

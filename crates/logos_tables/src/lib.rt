@@ -1,5 +1,6 @@
-//! Prints the generated code of a lexer in each shape. In the shape `tables`, it is tables for the
-//! loop of the runtime. Called by `logos_derive`, `logos_expand` and `logos_cli`.
+//! Prints the generated code of a lexer in each shape. In the shape `tables`, the generated code
+//! contains tables for the loop of the runtime. Called by `logos_derive`, `logos_expand` and
+//! `logos_cli`.
 
 #![tactic(auto)]
 

@@ -1,5 +1,4 @@
-//! Computes the values from which the tables of a code are printed. Called by `lexer` before it
-//! prints them.
+//! Computes the values from which the tables of a code are printed. Called by `lexer`.
 
 ghost use Rattle.std.specs.Prelude.{◌≡◌, IfOk};
 ghost use Rattle.logos_tables.specs.Imports.{AreMade};
@@ -17,9 +16,10 @@ pub(crate) struct PrintedTables {
     pub(crate) rows: StepRows,
     /// The classes of all symbols.
     pub(crate) classes: SymbolClasses,
-    /// The classes of all symbols, as runs.
+    /// The runs of equal classes among all symbols.
     pub(crate) class_runs: Vec<Run>,
-    /// The runs of the distinct rows, with one step for each class.
+    /// The runs of equal steps in the concatenated distinct rows. Each row has one step for each
+    /// class.
     pub(crate) runs: Vec<Run>,
 }
 

@@ -1,4 +1,4 @@
-//! Computes the numbers of the marks of states and of the leaves that are skipped. Called by
+//! Encodes the marks of states, and the leaves whose matches are skipped, as numbers. Called by
 //! `lexer`, which prints these numbers after the steps.
 
 ghost use Rattle.std.specs.Prelude.{◌≡◌, ◌<◌, IfOk, IfSome, map, option_map};
@@ -8,7 +8,7 @@ use logos_code::code::{CodeLeaf, CodeState, Mark};
 use logos_pattern::leaf::VariantKind;
 use std::alloc::{AllocError, Global};
 
-/// Returns the number of the mark of each state, in the order of the states.
+/// Returns the number that encodes the mark of each state, in the order of the states.
 ///
 /// # Errors
 ///
@@ -25,8 +25,8 @@ pub(crate) fn marks_of(alloc: Global, states: &[CodeState]) -> Result<Vec<usize>
     Ok(marks)
 }
 
-/// Returns the number of a mark: 0 for none, otherwise 2 plus twice the number of its leaf, plus 1
-/// if the mark is late.
+/// Returns the number that encodes a mark. The number is 0 if there is no mark. Otherwise it is 2
+/// plus twice the number of the mark's leaf, plus 1 if the mark is late.
 fn mark_number(mark: Option<Mark>) -> usize
     requires { IfSome mark (λ mark. mark.leaf.0 < leaf_limit) }
     ensures { result ≡ mark_number (option_map mark_of mark) }
@@ -38,7 +38,8 @@ fn mark_number(mark: Option<Mark>) -> usize
     }
 }
 
-/// Returns for each leaf 1 if its matches are skipped without a callback, otherwise 0.
+/// Returns a number for each leaf: 1 if its matches are skipped without a callback, and 0
+/// otherwise.
 ///
 /// # Errors
 ///
@@ -53,7 +54,7 @@ pub(crate) fn skips_of(alloc: Global, leaves: &[CodeLeaf<'_>]) -> Result<Vec<usi
     Ok(skips)
 }
 
-/// Returns 1 if the matches of the leaf are skipped without a callback, otherwise 0.
+/// Returns 1 if the matches of the leaf are skipped without a callback, and 0 otherwise.
 fn skip_number(leaf: &CodeLeaf<'_>) -> usize
     ensures { result ≡ skip_number (use_of leaf.now) }
 {

@@ -1,5 +1,4 @@
-//! Prints the parts of the implementation of `Tables`. Called by `lexer` for one part after
-//! another.
+//! Prints the parts of the implementation of `Tables`. Called by `lexer` for each part in turn.
 
 ghost use Rattle.std.specs.Prelude.{◌≡◌, ◌++◌, ◌∷◌, [], OnOk, string_bytes};
 ghost use Rattle.logos_tables.specs.Imports.{Appends, data_text, end_text, entries_size_text, folded_text, head_text, masks_text, unpacked_text};
@@ -10,7 +9,7 @@ use logos_token::error::Memory;
 // rustc evaluates a reference to the value of a call when it checks a package, unless the constant
 // can end before the call. Therefore each constant of the text begins with an assertion.
 
-/// The text after the tables: the functions that the loop of the runtime calls, and the call of the
+/// The text after the tables: the functions that the loop of the runtime calls, and the call to the
 /// loop.
 const END: &str = "fn bytes(source: &'s <Self as Logos<'s>>::Source) -> &'s [u8] { source.as_ref() }
 fn plain(leaf: usize) -> _Option<Self> { _token(leaf) }
@@ -21,7 +20,7 @@ _Tables::run(lex)
 } }
 ";
 
-/// Appends the head of the implementation for the type `this`.
+/// Appends the head of the implementation of `Tables` for the type `this`.
 pub(crate) fn push_head(text: &mut String, this: &str) -> Result<(), Memory>
     ensures { OnOk result (string_bytes text.new ≡ string_bytes text.old ++ head_text this.now) }
 {
@@ -32,8 +31,8 @@ pub(crate) fn push_head(text: &mut String, this: &str) -> Result<(), Memory>
     Ok(())
 }
 
-/// Appends the beginning of the tables: `root`, the number of the state in which match attempts
-/// begin, and `width`, the number of classes.
+/// Appends the beginning of the tables. `root` is the number of the state in which match attempts
+/// begin, and `width` is the number of classes.
 pub(crate) fn push_data(text: &mut String, root: usize, width: usize) -> Result<(), Memory>
     ensures { OnOk result (string_bytes text.new
         ≡ string_bytes text.old ++ data_text root width) }
@@ -45,8 +44,8 @@ pub(crate) fn push_data(text: &mut String, root: usize, width: usize) -> Result<
     Ok(())
 }
 
-/// Appends the end of the tables, and the type and the value of the unpacked tables, for these
-/// numbers of states and runs.
+/// Appends the end of the tables, and the type and the value of the unpacked tables. `states` is
+/// the number of states, and `runs` is the number of runs in the rows.
 pub(crate) fn push_unpacked(text: &mut String, states: usize, runs: usize) -> Result<(), Memory>
     ensures { OnOk result (string_bytes text.new
         ≡ string_bytes text.old ++ unpacked_text states runs) }
@@ -58,8 +57,8 @@ pub(crate) fn push_unpacked(text: &mut String, states: usize, runs: usize) -> Re
     Ok(())
 }
 
-/// Appends the constants that the loop reads: the rows, which have `entries` entries, and the
-/// entries of the end of the input.
+/// Appends the constants that the loop of the runtime reads: the rows, with `entries` entries, and
+/// the entries of the end of the input.
 pub(crate) fn push_entries_size(text: &mut String, entries: usize) -> Result<(), Memory>
     ensures { OnOk result (string_bytes text.new
         ≡ string_bytes text.old ++ entries_size_text entries) }
@@ -71,7 +70,8 @@ pub(crate) fn push_entries_size(text: &mut String, entries: usize) -> Result<(),
     Ok(())
 }
 
-/// Appends the constants of the loops over bytes that stay: `masks` masks, and their ranges.
+/// Appends the constants for the loops over bytes that do not change the state: `masks` masks, and
+/// the ranges of the masks.
 pub(crate) fn push_masks(text: &mut String, masks: usize) -> Result<(), Memory>
     ensures { OnOk result (string_bytes text.new ≡ string_bytes text.old ++ masks_text masks) }
 {
@@ -82,7 +82,7 @@ pub(crate) fn push_masks(text: &mut String, masks: usize) -> Result<(), Memory>
     Ok(())
 }
 
-/// Appends the constant that `scan` reads: the folded tables, which have `entries` entries.
+/// Appends the constant that `scan` reads: the folded tables, with `entries` entries.
 pub(crate) fn push_folded(text: &mut String, entries: usize) -> Result<(), Memory>
     ensures { OnOk result (string_bytes text.new ≡ string_bytes text.old ++ folded_text entries) }
 {
@@ -94,7 +94,7 @@ pub(crate) fn push_folded(text: &mut String, entries: usize) -> Result<(), Memor
 }
 
 /// Appends the text after the tables: the functions that the loop of the runtime calls, and the
-/// call of the loop.
+/// call to the loop.
 pub(crate) fn push_end(text: &mut String) -> Result<(), Memory>
     ensures { OnOk result (string_bytes text.new ≡ string_bytes text.old ++ end_text) }
 {

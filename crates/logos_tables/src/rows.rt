@@ -1,4 +1,4 @@
-//! Computes the rows of all states, and stores each distinct row once. Used by `made`.
+//! Computes the rows of all states, and stores each distinct row once. Called by `made`.
 
 ghost use Rattle.std.specs.Prelude.{◌≡◌, ℕ, ◌<◌, ◌++◌, ◌∷◌, [], IfOk, OnOk, length, vec_len, slice_index, slice_index_or};
 ghost use Rattle.logos_tables.specs.Imports.{AreRows, AreWide, rows_at};
@@ -8,10 +8,10 @@ use indexmap::IndexSet;
 use logos_code::code::Code;
 use std::alloc::{AllocError, Global};
 
-/// A list of rows, with each distinct row stored once.
+/// A list of rows that stores each distinct row once.
 #[derive(Drop)]
 pub(crate) struct StepRows {
-    /// The number of each row among the distinct ones.
+    /// The index in `distinct` of each row of the list.
     pub(crate) slots: Vec<usize>,
     /// The distinct rows.
     pub(crate) distinct: IndexSet<Steps>,
@@ -32,7 +32,7 @@ impl StepRows {
         }
     }
 
-    /// Appends a row, and stores it if no equal row is stored.
+    /// Appends `row` to the list, and stores it if no equal row is stored.
     fn push(&mut self, row: &Steps) -> Result<(), AllocError>
         ensures { OnOk result (rows_of self.new ≡ rows_of self.old ++ row.now ∷ []) }
     {

@@ -1,5 +1,5 @@
-//! Finds the runs of equal numbers in the classes of symbols and in the rows by classes. Called by
-//! `made`; `fields` prints the runs.
+//! Finds the runs of equal numbers in the classes of symbols, and in rows with one step for each
+//! class. Called by `made`. `fields` prints the runs.
 
 ghost use Rattle.std.specs.Prelude.{◌≡◌, ◌<◌, ◌++◌, ◌∷◌, [], IfOk, OnOk, IsTrue, map};
 ghost use Rattle.logos_tables.specs.Imports.{flat_map, by_classes, spread};
@@ -11,10 +11,10 @@ use std::alloc::{AllocError, Global};
 /// The maximum length of a run.
 const LONGEST: usize = 65535;
 
-/// A run of equal numbers: its length, and the number.
+/// A run of equal numbers, as a pair of the run's length and the number.
 pub(crate) type Run = (usize, usize);
 
-/// Returns the runs of equal numbers of which `numbers` consists, in order.
+/// Splits `numbers` into runs of equal numbers. Returns the runs in order.
 ///
 /// # Errors
 ///
@@ -29,8 +29,8 @@ pub(crate) fn runs_of(alloc: Global, numbers: &[usize]) -> Result<Vec<Run>, Allo
     Ok(runs)
 }
 
-/// Returns the runs of the concatenated rows, where a row has the steps of `symbols`, which are one
-/// for each class.
+/// Returns the runs of equal steps in the concatenated rows. `symbols` contains one symbol for each
+/// class, and each row consists of the steps of these symbols.
 ///
 /// # Errors
 ///
@@ -49,7 +49,8 @@ pub(crate) fn row_runs(
     Ok(runs)
 }
 
-/// Appends the steps of a row for `symbols`, which are one for each class.
+/// Appends the steps of `row` for `symbols` to the numbers of `runs`. `symbols` contains one symbol
+/// for each class.
 fn push_row(runs: &mut Vec<Run>, row: &Steps, symbols: &[usize]) -> Result<(), AllocError>
     ensures { OnOk result (spread runs.new.items
         ≡ spread runs.old.items ++ by_classes symbols.now row.now) }
@@ -60,7 +61,8 @@ fn push_row(runs: &mut Vec<Run>, row: &Steps, symbols: &[usize]) -> Result<(), A
     Ok(())
 }
 
-/// Appends a step to the numbers of `runs`: extends the last run by it, or begins a new run.
+/// Appends `step` to the numbers of `runs`. Extends the last run if possible, and begins a new run
+/// otherwise.
 fn push_step(runs: &mut Vec<Run>, step: usize) -> Result<(), AllocError>
     ensures { OnOk result (spread runs.new.items ≡ spread runs.old.items ++ step ∷ []) }
 {
@@ -75,7 +77,7 @@ fn push_step(runs: &mut Vec<Run>, step: usize) -> Result<(), AllocError>
     Ok(())
 }
 
-/// Returns whether a run can be extended by this step.
+/// Returns whether `run` can be extended by `step`.
 fn continues(run: Run, step: usize) -> bool
     ensures { IsTrue result → (run.1 ≡ step) × (run.0 < LONGEST) }
 {
@@ -97,7 +99,7 @@ pub(crate) fn lengths_of(alloc: Global, runs: &[Run]) -> Result<Vec<usize>, Allo
     Ok(lengths)
 }
 
-/// Returns the step of each run.
+/// Returns the step that each run repeats.
 ///
 /// # Errors
 ///

@@ -13,14 +13,14 @@ use std::alloc::Global;
 /// The shape in which a lexer is printed.
 #[derive(Clone, Copy)]
 pub enum Shape {
-    /// A shape of `Config`: a loop over a state, or a function for each state.
+    /// A shape in `Config`: a loop over the current state, or a function for each state.
     Code(Config),
     /// Tables for the loop of the runtime.
     Tables,
 }
 
-/// Returns the shape of the code from which a lexer of this shape is printed: for tables, a loop
-/// over a state.
+/// Returns the shape of the code from which a lexer of the shape `shape` is printed. For tables,
+/// the result is the shape with a loop over the current state.
 pub fn config_of(shape: Shape) -> Config
     ensures { result ≡ config_of shape }
 {
@@ -32,7 +32,8 @@ pub fn config_of(shape: Shape) -> Config
     }
 }
 
-/// Returns the text of the lexer `made` in this shape, with the pieces of the source in it.
+/// Returns the text of the lexer `made` in the shape `shape`, and the pieces of the source in this
+/// text.
 ///
 /// # Errors
 ///

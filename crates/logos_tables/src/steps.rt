@@ -1,21 +1,21 @@
-//! Computes the step of each byte, and of the end of the input, in a state, as a number. Called by
-//! `rows` for each state.
+//! Encodes the steps of a state as numbers: one for each byte, and one for the end of the input.
+//! Called by `rows` for each state.
 
 ghost use Rattle.std.specs.Prelude.{◌≡◌, ◌<◌, length, IfSome, IsTrue};
 ghost use Rattle.logos_tables.specs.Imports.{passes_test, code_of, state_at, NamesState, NamesTest, stays, target, HasSteps, led_number, step_number};
 
 use logos_code::code::{Code, CodeParts};
 
-/// The symbol for the end of the input. The symbols before it are the bytes.
+/// The symbol for the end of the input. The symbols below `END` are the bytes.
 const END: usize = 256;
 
-/// The number of symbols: each byte, and the end of the input.
+/// The number of symbols, which are all bytes and the end of the input.
 const SYMBOLS: usize = 257;
 
-/// The steps of a state, as a number for each symbol.
+/// The steps of a state, encoded as one number for each symbol.
 pub(crate) type Steps = [usize; SYMBOLS];
 
-/// Returns the steps of all symbols in a state, as numbers.
+/// Returns the numbers that encode the steps of all symbols in a state.
 pub(crate) fn steps_of(code: &Code<'_>, state: usize) -> Steps
     requires { state < length code.now.states }
     ensures { HasSteps code.now (state_at code.now state) result }
@@ -27,8 +27,8 @@ pub(crate) fn steps_of(code: &Code<'_>, state: usize) -> Steps
     steps
 }
 
-/// Returns the number of the step of a symbol in a state: 0 for none, 1 if the byte stays,
-/// otherwise 2 plus the target state.
+/// Returns the number that encodes the step of a symbol in a state. The number is 0 if the symbol
+/// leads nowhere, 1 if a byte stays in the state, and 2 plus the number of the target otherwise.
 fn step_number(code: &Code<'_>, state: usize, symbol: usize) -> usize
     requires state { state < length code.now.states }
     requires symbol { symbol < SYMBOLS }
@@ -44,7 +44,7 @@ fn step_number(code: &Code<'_>, state: usize, symbol: usize) -> usize
     number_of_target(code, state, byte)
 }
 
-/// Returns whether the state has a fast loop and the byte passes its test.
+/// Returns whether the state has a fast loop whose test `byte` passes.
 fn stays(code: &Code<'_>, state: usize, byte: u8) -> bool
     requires { state < length code.now.states }
     ensures { result ≡ stays code.now (state_at code.now state).fast_loop byte }
@@ -55,7 +55,7 @@ fn stays(code: &Code<'_>, state: usize, byte: u8) -> bool
     }
 }
 
-/// Returns the number of the step that a state takes at the end of the input.
+/// Returns the number that encodes the step of a state at the end of the input.
 fn number_at_end(code: &Code<'_>, state: usize) -> usize
     requires { state < length code.now.states }
     ensures { result ≡ led_number (state_at code.now state).at_end }
@@ -63,7 +63,7 @@ fn number_at_end(code: &Code<'_>, state: usize) -> usize
     led_number(code.parts(), code.at_end(state))
 }
 
-/// Returns the number of the step that a state takes for a byte that does not stay.
+/// Returns the number that encodes the step of a state for a byte that does not stay in the state.
 fn number_of_target(code: &Code<'_>, state: usize, byte: u8) -> usize
     requires { state < length code.now.states }
     ensures { result ≡ led_number (target code.now (state_at code.now state).fork byte) }
@@ -71,7 +71,7 @@ fn number_of_target(code: &Code<'_>, state: usize, byte: u8) -> usize
     led_number(code.parts(), code.target(state, byte))
 }
 
-/// Returns the number of the step to the state `target`, or 0 for `None`.
+/// Returns the number that encodes a step to the state `target`, or 0 if `target` is `None`.
 fn led_number(parts: &CodeParts<'_>, target: Option<usize>) -> usize
     requires { IfSome target (NamesState (code_of parts.now)) }
     ensures { result ≡ led_number target }

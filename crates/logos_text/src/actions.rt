@@ -1,5 +1,5 @@
-//! Prints the functions that a lexer by tables calls for errors, matches and tokens, with leaves as
-//! numbers. Called by `code` once.
+//! Prints the functions that a table-driven lexer calls for errors, matches and tokens. The
+//! functions represent leaves by their numbers. Called once, by `code`.
 
 ghost use Rattle.std.specs.Prelude.{◌≡◌, OnOk};
 ghost use Rattle.logos_text.specs.Views.{Notes, NotesLast, called_leaf_runs, flat_map, is_called, last_arm_text, leaf_runs, plain_leaf_runs, table_runs, variant_runs};
@@ -32,8 +32,8 @@ pub(crate) fn push_table_actions(
     Ok(())
 }
 
-/// Appends the function `_get_action`, which returns the result of a match of a leaf that has a
-/// callback or a field, and skips matches of other leaves.
+/// Appends the function `_get_action`. The function returns the result of a match of a leaf that
+/// has a callback or a field, and skips the matches of other leaves.
 fn push_action(
     alloc: Global,
     sink: &mut Sink,
@@ -69,7 +69,8 @@ fn push_action_arms(
     Ok(())
 }
 
-/// Appends the match arm of leaf `n` if the leaf has a callback or a field, and nothing otherwise.
+/// Appends the match arm of leaf number `n` if the leaf has a callback or a field. Otherwise
+/// appends nothing.
 fn push_action_arm(
     alloc: Global,
     sink: &mut Sink,
@@ -86,7 +87,7 @@ fn push_action_arm(
     Ok(())
 }
 
-/// Appends the match arm of leaf `n`, which has a callback or a field.
+/// Appends the match arm of leaf number `n`, which has a callback or a field.
 fn push_called_arm(
     alloc: Global,
     sink: &mut Sink,
@@ -102,15 +103,15 @@ fn push_called_arm(
     Ok(())
 }
 
-/// Returns whether a leaf has a callback, or a variant with a field.
+/// Returns whether a leaf has a callback or a variant with a field.
 fn is_called(leaf: &CodeLeaf<'_>) -> bool
     ensures { result ≡ is_called leaf.now }
 {
     leaf.callback.is_some() | matches!(leaf.kind, VariantKind::Value(_, _))
 }
 
-/// Appends the function `_token`, which returns the token of a leaf whose variant has no field and
-/// which has no callback, up to the match arm for other leaves.
+/// Appends the beginning of the function `_token`, before the match arm for other leaves. The
+/// function returns the token of a leaf that has no callback and whose variant has no field.
 fn push_tokens(sink: &mut Sink, leaves: &[CodeLeaf<'_>], names: Names<'_>) -> Result<(), Memory>
     ensures { OnOk result (Notes (flat_map (plain_leaf_runs names.entry.name) leaves.now)
         sink.old sink.new) }
@@ -124,7 +125,7 @@ fn push_tokens(sink: &mut Sink, leaves: &[CodeLeaf<'_>], names: Names<'_>) -> Re
     Ok(())
 }
 
-/// Appends the match arms of the leaves whose variant has no field and which have no callback.
+/// Appends the match arms of the leaves that have no callback and whose variant has no field.
 fn push_token_arms(sink: &mut Sink, leaves: &[CodeLeaf<'_>], name: Ident<'_>) -> Result<(), Memory>
     ensures { OnOk result (Notes (flat_map (plain_leaf_runs name.entry) leaves.now) sink.old sink.new) }
 {
@@ -134,8 +135,8 @@ fn push_token_arms(sink: &mut Sink, leaves: &[CodeLeaf<'_>], name: Ident<'_>) ->
     Ok(())
 }
 
-/// Appends the match arm of leaf `n` if its variant has no field and it has no callback, and
-/// nothing otherwise.
+/// Appends the match arm of leaf number `n` if the leaf has no callback and its variant has no
+/// field. Otherwise appends nothing.
 fn push_token(sink: &mut Sink, n: usize, leaf: &CodeLeaf<'_>, name: Ident<'_>) -> Result<(), Memory>
     ensures { OnOk result (Notes (plain_leaf_runs name.entry leaf.now) sink.old sink.new) }
 {
@@ -147,7 +148,8 @@ fn push_token(sink: &mut Sink, n: usize, leaf: &CodeLeaf<'_>, name: Ident<'_>) -
     }
 }
 
-/// Appends the match arm of leaf `n`, whose token is `variant` of the enum `name`.
+/// Appends the match arm of leaf number `n`. The arm returns the variant `variant` of the enum
+/// `name`.
 fn push_token_arm(
     sink: &mut Sink,
     n: usize,

@@ -23,7 +23,7 @@ pub(crate) fn push_call(
     }
 }
 
-/// Appends the call of a callback that is named by `label`, the path of a function.
+/// Appends the call of a callback that is the function with the path `label`.
 fn push_label(alloc: Global, sink: &mut Sink, label: Tokens<'_, '_>) -> Result<(), Memory>
     ensures { OnOk result (Notes (noted_runs (tokens_of label.entry)) sink.old sink.new) }
 {
@@ -32,7 +32,7 @@ fn push_label(alloc: Global, sink: &mut Sink, label: Tokens<'_, '_>) -> Result<(
     Ok(())
 }
 
-/// Appends a callback that is written out, as a block: its parameter, and then its body.
+/// Appends an inline callback as a block: its parameter and then its body.
 fn push_inline(alloc: Global, sink: &mut Sink, inline: &InlineCallback<'_>) -> Result<(), Memory>
     ensures { OnOk result (Notes (inline_runs inline.now.arg (stream_tokens inline.now.body))
         sink.old sink.new) }

@@ -1,4 +1,5 @@
-//! Prints a whole code. Called by `logos_codegen`.
+//! Prints a whole lexer: the text of a code, and the implementation of `Logos` around this text.
+//! Called by `logos_codegen`.
 
 ghost use Rattle.std.specs.Prelude.{[], IfOk, OnOk, map, string_bytes};
 ghost use Rattle.logos_text.specs.Views.{Adds, ArePrinted, BeginsWith, Grows, IsFront, Notes, OccurInOrder, action_runs, around_value, code_of, flat_map, front_runs, opening_text, printed_type, short_core, state_of, state_texts, text_runs, texts_in, texts_of, type_tree};
@@ -17,19 +18,21 @@ use logos_token::error::Memory;
 use logos_type::print_type;
 use std::alloc::Global;
 
-/// The path of `core` in generated code in a shape of `Config`, with the gap after it.
+/// The path of `core` in generated code of the shapes in `Config`, with the gap after it.
 const SHORT_CORE: &str = "core ";
-/// The path of `core` in generated code in the shape `tables`, with the gap after it: the whole
-/// path, which no module beside the enum changes.
+/// The path of `core` in generated code of the shape `tables`, with the gap after it. The path is
+/// absolute, so no module beside the enum changes its meaning.
 const WHOLE_CORE: &str = ":: core ";
-/// The text before the function that lexes by tables. This function is short, and a caller that
+/// The text before the function of a table-driven lexer. The function is short, and a caller that
 /// inlines it keeps the lexer in registers.
 const TABLES_LEAD: &str = "# [ inline ] ";
 
-/// Returns the Rust text of a code, as the body of a function: its tokens, with the gaps that
-/// `print` puts between tokens. It contains the texts of all bit tables, in the order of their
-/// numbers, and after them the conditions of all forks, in the order of the states and of the
-/// conditions of a fork. No two of these texts overlap.
+/// Returns the Rust text of a code, as the body of a function. The text consists of tokens, with
+/// the gaps that `print` puts between tokens.
+///
+/// The text contains the texts of all bit tables, in the order of their numbers. After the tables,
+/// it contains the conditions of all forks, in the order of the states and of the conditions of
+/// each fork. No two of these texts overlap.
 ///
 /// # Errors
 ///
@@ -44,8 +47,9 @@ pub fn text(alloc: Global, code: &Code<'_>) -> Result<String, Memory>
     Ok(sink.text)
 }
 
-/// Returns the text of the implementation of `Logos`, with the pieces of the source in it: the Rust
-/// text of a code, which is that of `text`, and the text around it that `around` determines.
+/// Returns the text of the implementation of `Logos`, with the pieces of the source in it. The text
+/// consists of the Rust text of a code, as `text` returns it, and of the text around it, which
+/// `around` determines.
 ///
 /// # Errors
 ///
@@ -67,10 +71,10 @@ pub fn text_in(alloc: Global, code: &Code<'_>, around: Around<'_, '_>) -> Result
     Ok(sink)
 }
 
-/// Returns the first part of the implementation of `Logos` by tables: its associated types, and the
-/// beginning of the function `lex` with its imports and its functions for errors, matches and
-/// tokens. The caller appends the rest of the body. The result also has the pieces of the source in
-/// the text.
+/// Returns the first part of a table-driven implementation of `Logos`, with the pieces of the
+/// source in it. The first part consists of the associated types and of the beginning of the
+/// function `lex`, with its imports and its functions for errors, matches and tokens. The caller
+/// appends the rest of the body.
 ///
 /// # Errors
 ///

@@ -1,5 +1,6 @@
-//! Prints conditions. `forks` calls it for each branch, and `states` for fast loops and for the end
-//! of the input.
+//! Prints the conditions of generated code that test a byte of the input, and the steps to other
+//! states. Called by `forks` for each branch, and by `states` for fast loops and for the end of the
+//! input.
 
 ghost use Rattle.std.specs.Prelude.{◌≡◌, ◌++◌, ◌∷◌, [], ◌==◌, ◌<◌, OnOk, map, codes, string_bytes};
 ghost use Rattle.logos_text.specs.Imports.{flat_map, join_by, comparison_of, condition_of, is_quoted, end_text, exception_text, single_text, between_text, comparison_text, bit_text, test_text, transition_text, condition_text};
@@ -9,18 +10,18 @@ use logos_byte_class::byte_class::Comparisons;
 use logos_code::code::{Condition, Config};
 use logos_token::error::Memory;
 
-/// The first character that is not ASCII.
+/// The code point of the first character that is not ASCII.
 const ASCII: u32 = 128;
 
-/// Returns whether a byte is written as a byte literal in quotes, and not as a number.
+/// Returns whether a byte is printed as a byte literal in quotes rather than as a number.
 fn is_quoted(byte: u8) -> bool
     ensures { result ≡ is_quoted byte }
 {
     matches!(byte, b'!'..=b'}') & (byte != b'`')
 }
 
-/// Appends a byte that is an end of a range: as a byte literal in quotes if it is a visible
-/// character but neither a backquote nor a tilde, and otherwise as a number.
+/// Appends a byte that is an end of a range. The byte is printed as a byte literal in quotes if it
+/// is a visible ASCII character other than a backquote and a tilde, and as a number otherwise.
 fn push_end(text: &mut String, byte: u8) -> Result<(), Memory>
     ensures { OnOk result (string_bytes text.new ≡ string_bytes text.old ++ end_text byte) }
 {
@@ -56,7 +57,8 @@ fn push_exception(text: &mut String, byte: u8) -> Result<(), Memory>
     Ok(())
 }
 
-/// Appends `&&` and the condition that the byte of the input is not `b`, for each `b` of `bytes`.
+/// Appends `&&` and the condition that the byte of the input is not `b`, for each byte `b` in
+/// `bytes`.
 fn push_exceptions(text: &mut String, bytes: &[u8]) -> Result<(), Memory>
     ensures { OnOk result (string_bytes text.new
         ≡ string_bytes text.old ++ flat_map exception_text bytes.now) }
@@ -67,8 +69,8 @@ fn push_exceptions(text: &mut String, bytes: &[u8]) -> Result<(), Memory>
     Ok(())
 }
 
-/// Appends a comparison of the byte of the input: with one byte, or with the ends of a range and
-/// its exceptions.
+/// Appends a comparison of the byte of the input with one byte, or with a range of bytes and its
+/// exceptions.
 fn push_comparison(text: &mut String, comparison: &Comparisons) -> Result<(), Memory>
     ensures { OnOk result (string_bytes text.new
         ≡ string_bytes text.old ++ comparison_text (comparison_of comparison.now)) }
@@ -91,8 +93,7 @@ fn push_single(text: &mut String, byte: u8) -> Result<(), Memory>
     Ok(())
 }
 
-/// Appends the condition that the byte of the input is from `first` to `last` and is not one of
-/// `except`.
+/// Appends the condition that the byte of the input is in `first..=last` but not in `except`.
 fn push_between(text: &mut String, first: u8, last: u8, except: &[u8]) -> Result<(), Memory>
     ensures { OnOk result (string_bytes text.new
         ≡ string_bytes text.old ++ between_text first last except.now) }
@@ -139,8 +140,8 @@ fn push_comparisons(text: &mut String, comparisons: &[Comparisons]) -> Result<()
     push_next_comparisons(text, rest)
 }
 
-/// Appends the expression for the bit of the test with this number, in the bit table's entry for
-/// the byte.
+/// Appends the expression that reads the bit of the test with the number `test` from the bit
+/// table's entry for the byte of the input.
 pub(crate) fn push_bit(text: &mut String, test: usize) -> Result<(), Memory>
     ensures { OnOk result (string_bytes text.new ≡ string_bytes text.old ++ bit_text test) }
 {
@@ -150,7 +151,7 @@ pub(crate) fn push_bit(text: &mut String, test: usize) -> Result<(), Memory>
     Ok(())
 }
 
-/// Appends the test of a byte, as an expression of type `bool`.
+/// Appends the test of the byte of the input as an expression of type `bool`.
 fn push_test(text: &mut String, test: &Condition) -> Result<(), Memory>
     ensures { OnOk result (string_bytes text.new
         ≡ string_bytes text.old ++ test_text (condition_of test.now)) }
@@ -162,7 +163,7 @@ fn push_test(text: &mut String, test: &Condition) -> Result<(), Memory>
     Ok(())
 }
 
-/// Appends the condition that the bit of the test with this number is set.
+/// Appends the condition that the bit of the test with the number `test` is set.
 fn push_bit_test(text: &mut String, test: usize) -> Result<(), Memory>
     ensures { OnOk result (string_bytes text.new
         ≡ string_bytes text.old ++ bit_text test ++ codes " != 0") }
@@ -172,7 +173,7 @@ fn push_bit_test(text: &mut String, test: usize) -> Result<(), Memory>
     Ok(())
 }
 
-/// Appends the step to the state `target`, in this shape.
+/// Appends the step to the state with the number `target`, in the shape `shape`.
 pub(crate) fn push_transition(text: &mut String, target: usize, shape: Config) -> Result<(), Memory>
     ensures { OnOk result (string_bytes text.new
         ≡ string_bytes text.old ++ transition_text target shape) }
@@ -185,7 +186,8 @@ pub(crate) fn push_transition(text: &mut String, target: usize, shape: Config) -
     Ok(())
 }
 
-/// Appends a condition, and the step to the state `target` that is taken if the condition holds.
+/// Appends the condition `test`, and the step to the state with the number `target`, which is taken
+/// if the condition holds.
 pub(crate) fn push_condition(
     text: &mut String,
     test: &Condition,

@@ -1,4 +1,4 @@
-//! Prints the function that makes errors. Called once for each lexer, by `code` or by `actions`.
+//! Prints the function that creates errors. Called once for each lexer, by `code` or by `actions`.
 
 ghost use Rattle.std.specs.Prelude.{OnOk, option_copied, option_map};
 ghost use Rattle.logos_text.specs.Views.{Notes, called_runs, callback_runs, callback_value, inline_runs, noted_runs, stream_tokens, tokens_of};
@@ -10,7 +10,7 @@ use logos_token::error::Memory;
 use logos_token::token::Tokens;
 use std::alloc::Global;
 
-/// Appends the function `_make_error`, which makes the error of bytes that no leaf matches.
+/// Appends the function `_make_error`, which creates the error for bytes that no leaf matches.
 pub(crate) fn push_make_error(
     alloc: Global,
     sink: &mut Sink,
@@ -64,7 +64,7 @@ fn push_error_call(alloc: Global, sink: &mut Sink, callback: &Callback<'_>) -> R
     }
 }
 
-/// Appends the call of an error callback that is named by `label`, the path of a function.
+/// Appends the call of an error callback that is the function with the path `label`.
 fn push_error_label(alloc: Global, sink: &mut Sink, label: Tokens<'_, '_>) -> Result<(), Memory>
     ensures { OnOk result (Notes (noted_runs (tokens_of label.entry)) sink.old sink.new) }
 {
@@ -74,7 +74,7 @@ fn push_error_label(alloc: Global, sink: &mut Sink, label: Tokens<'_, '_>) -> Re
     Ok(())
 }
 
-/// Appends an error callback that is written out: its parameter, and then its body.
+/// Appends an inline error callback: its parameter and then its body.
 fn push_error_inline(
     alloc: Global,
     sink: &mut Sink,

@@ -1,4 +1,5 @@
-//! Prints forks. `states` calls it for each state.
+//! Prints forks: the steps of a state for the bytes that lead to states. Called by `states` for
+//! each state.
 
 ghost use Rattle.std.specs.Prelude.{◌∷◌, [], OnOk, map, string_bytes};
 ghost use Rattle.logos_text.specs.Imports.{branch_of, fork_of, Adds, Grows, branch_text, fork_texts};
@@ -9,7 +10,7 @@ use logos_code::code::{CodeParts, Condition, Config, Fork, NOWHERE};
 use logos_token::error::Memory;
 use std::alloc::Global;
 
-/// Appends a branch, and a space.
+/// Appends a branch and a space.
 fn push_branch(text: &mut String, branch: &(Condition, usize), shape: Config) -> Result<(), Memory>
     ensures { OnOk result (Adds (branch_text shape (branch_of branch.now) ∷ [])
         (string_bytes text.old) (string_bytes text.new)) }
@@ -33,7 +34,8 @@ fn push_branches(
     Ok(())
 }
 
-/// Appends the entry of `byte` in a jump table, with a comma before all but the first.
+/// Appends the entry `entry` of a jump table for `byte`, with a comma before each entry but the
+/// first.
 fn push_jump(text: &mut String, byte: usize, entry: u32, shape: Config) -> Result<(), Memory>
     ensures { OnOk result (Grows (string_bytes text.old) (string_bytes text.new)) }
 {
@@ -51,7 +53,7 @@ fn push_jump(text: &mut String, byte: usize, entry: u32, shape: Config) -> Resul
     Ok(())
 }
 
-/// Returns the text of the entry of a byte that leads to no state.
+/// Returns the text of a jump table's entry for a byte that leads to no state.
 fn nowhere(shape: Config) -> &'static str {
     if shape.use_state_machine_codegen {
         "None"
@@ -70,7 +72,8 @@ fn push_jumps(text: &mut String, table: &[u32; 256], shape: Config) -> Result<()
     Ok(())
 }
 
-/// Appends a jump table, and the statements that set the state by it, in the shape with a loop.
+/// Appends a jump table and the statements that set the state according to the table, in the shape
+/// with a loop.
 fn push_step(text: &mut String, table: &[u32; 256], shape: Config) -> Result<(), Memory>
     ensures { OnOk result (Grows (string_bytes text.old) (string_bytes text.new)) }
 {
@@ -82,8 +85,8 @@ fn push_step(text: &mut String, table: &[u32; 256], shape: Config) -> Result<(),
     )
 }
 
-/// Returns the numbers of the targets of a jump table, ascending and without duplicates. `NOWHERE`
-/// is not a target.
+/// Returns the numbers of the targets of a jump table, in ascending order and without duplicates.
+/// `NOWHERE` is not a target.
 fn targets_of(alloc: Global, table: &[u32; 256]) -> Result<Vec<u32>, Memory> {
     let mut targets = Vec::from_slice(alloc, table)?;
     targets.sort_unstable();
@@ -94,8 +97,8 @@ fn targets_of(alloc: Global, table: &[u32; 256]) -> Result<Vec<u32>, Memory> {
     Ok(targets)
 }
 
-/// Appends the name of the state `target`, the element `n` of a list, with a comma before all but
-/// the first.
+/// Appends the name of the state with the number `target` as the element at the index `n` of a
+/// list, with a comma before each element but the first.
 fn push_next_name(text: &mut String, n: usize, target: u32) -> Result<(), Memory>
     ensures { OnOk result (Grows (string_bytes text.old) (string_bytes text.new)) }
 {
@@ -114,8 +117,8 @@ fn push_next_names(text: &mut String, targets: &[u32]) -> Result<(), Memory>
     Ok(())
 }
 
-/// Appends the match arm that calls the state `target`, the element `n` of a list, with a comma
-/// before all but the first.
+/// Appends the match arm that calls the state with the number `target` as the element at the index
+/// `n` of a list, with a comma before each element but the first.
 fn push_next_arm(text: &mut String, n: usize, target: u32, shape: Config) -> Result<(), Memory>
     ensures { OnOk result (Grows (string_bytes text.old) (string_bytes text.new)) }
 {
@@ -156,7 +159,7 @@ fn push_next_table(
     push_jumps(text, table, shape)
 }
 
-/// Appends a jump table, and the call of the target's function, in the shape with a function for
+/// Appends a jump table and the call of the target's function, in the shape with a function for
 /// each state.
 fn push_call(
     alloc: Global,
@@ -173,7 +176,7 @@ fn push_call(
     push(text, "LogosNextState :: ___ => { } , } offset -= 1 ; ")
 }
 
-/// Appends a jump by a table in this shape, or nothing if there is no table.
+/// Appends a jump according to `table` in the shape `shape`, or nothing if there is no table.
 fn push_by_table(
     alloc: Global,
     text: &mut String,
@@ -191,7 +194,7 @@ fn push_by_table(
     push_call(alloc, text, table, shape)
 }
 
-/// Appends the steps of a fork, for each byte that leads to a state.
+/// Appends the steps of a fork: the steps for the bytes that lead to states.
 pub(crate) fn push_ways(
     alloc: Global,
     text: &mut String,

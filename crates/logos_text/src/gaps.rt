@@ -6,9 +6,11 @@ ghost use Rattle.logos_text.specs.Imports.{gap_after, gap_of, tokens_of, tree_of
 
 use logos_token::token::{TokenTree, Tokens, gap_after_doc};
 
-/// Returns the gap to print between `tokens` and the token that follows them: nothing if there are
-/// no tokens; a line end if the last one is a comment that ends with its line, since the next token
-/// would belong to the comment; and a space otherwise.
+/// Returns the gap to print between `tokens` and the token that follows them.
+///
+/// The gap is empty if there are no tokens. It is a line end if the last token is a comment that
+/// ends with its line, because the next token would otherwise belong to the comment. In all other
+/// cases, the gap is a space.
 pub(crate) fn gap_after(tokens: Tokens<'_, '_>) -> &'static str
     ensures { result.now ≡ gap_after [] (tokens_of tokens.entry) }
 {

@@ -1,5 +1,5 @@
-//! Prints the implementation of `Logos` around the body of a lexer. `code` calls it before the
-//! body.
+//! Prints the beginning of the implementation of `Logos`, before the body of the function that
+//! lexes. Called by `code`.
 
 ghost use Rattle.std.specs.Prelude.{[], ◌++◌, OnOk, option_copied, option_map};
 ghost use Rattle.logos_text.specs.Views.{Prints, answer_text, around_value, core_text, error_type_runs, error_type_text, gap_after, head_runs, head_text, internals_text, lexer_end_text, lexer_text, library_text, library_twice};
@@ -13,15 +13,15 @@ use logos_token::token::{Ident, Tokens, print};
 use logos_type::{TypeExpr, print_type};
 use std::alloc::Global;
 
-/// The parts of the text around the body of a lexer that depend on its source.
+/// The parts of the text around the body of a lexer that depend on the source of the lexer.
 #[derive(Clone, Copy)]
 pub struct Around<'t, 's> {
     /// The path of the `logos` library, or `None` for `::logos`.
     pub logos: Option<Tokens<'t, 's>>,
     /// The tokens of the type of errors, or `None` for `()`.
     pub error: Option<Tokens<'t, 's>>,
-    /// The type of errors that was read from the tokens of `error`, or `None` if they were not
-    /// read. It is printed in place of the tokens.
+    /// The type of errors that was read from the tokens of `error`, or `None` if the tokens were
+    /// not read. The type is printed instead of the tokens.
     pub error_type: Option<&'t TypeExpr<'s>>,
     /// The tokens of the type of extras, or `None` for `()`.
     pub extras: Option<Tokens<'t, 's>>,
@@ -29,8 +29,8 @@ pub struct Around<'t, 's> {
     pub source: &'static str,
 }
 
-/// Appends the text before a body. `lead` is the text before the function that lexes, and `core` is
-/// the path of Rust's `core`, with the gap after it.
+/// Appends the text before the body of a lexer. `lead` is the text before the function that lexes,
+/// and `core` is the path of Rust's `core`, with the gap after it.
 pub(crate) fn push_front(
     alloc: Global,
     sink: &mut Sink,
@@ -51,7 +51,8 @@ pub(crate) fn push_front(
     Ok(())
 }
 
-/// Appends the path of the library, or `::logos` for `None`, and the gap after it.
+/// Appends the path `library` of the library, or `::logos` if `library` is `None`, and the gap
+/// after the path.
 fn push_library(
     alloc: Global,
     sink: &mut Sink,
@@ -66,7 +67,8 @@ fn push_library(
     }
 }
 
-/// Appends `this`, the enum as a type. If it begins with the enum's name, the name becomes a piece.
+/// Appends `this`, the printed type of the enum. If `this` begins with the enum's name `name`, the
+/// name becomes a piece.
 fn push_this(sink: &mut Sink, name: Ident<'_>, this: &str) -> Result<(), Memory>
     ensures { OnOk result (Prints this.now (this_runs name.entry this.now) sink.old sink.new) }
 {
@@ -138,8 +140,8 @@ fn push_error(alloc: Global, sink: &mut Sink, around: Around<'_, '_>) -> Result<
     }
 }
 
-/// Appends a type that was read from tokens, and the gap after the tokens, or a space if there are
-/// none. If the tokens are printed as the type is, they become a piece.
+/// Appends the type `expr`, which was read from `tokens`, and the gap after the tokens, or a space
+/// if there are no tokens. If the printed tokens equal the printed type, the tokens become a piece.
 fn push_read_type(
     alloc: Global,
     sink: &mut Sink,
@@ -163,7 +165,7 @@ fn push_read_type(
 }
 
 /// Appends `printed`, the printed form of a type that was read from the tokens `run`, and the gap
-/// after them. If the tokens are printed alike, they become a piece.
+/// after the tokens. If the printed tokens equal `printed`, the tokens become a piece.
 fn push_typed_run(
     alloc: Global,
     sink: &mut Sink,
@@ -183,7 +185,8 @@ fn push_typed_run(
     Ok(())
 }
 
-/// Appends a type by its tokens, or `()` for `None`, and the gap after it.
+/// Appends a type that is written as the tokens `tokens`, or `()` for `None`, and the gap after the
+/// type.
 fn push_type(alloc: Global, sink: &mut Sink, tokens: Option<Tokens<'_, '_>>) -> Result<(), Memory>
     ensures { OnOk result (Prints (type_text (option_map tokens_of tokens.entry))
         (option_runs (option_map tokens_of tokens.entry)) sink.old sink.new) }
@@ -194,7 +197,7 @@ fn push_type(alloc: Global, sink: &mut Sink, tokens: Option<Tokens<'_, '_>>) -> 
     }
 }
 
-/// Appends `lead`, and the signature of the function that lexes.
+/// Appends `lead` and the signature of the function that lexes.
 fn push_signature(
     alloc: Global,
     sink: &mut Sink,
@@ -215,8 +218,8 @@ fn push_signature(
     Ok(())
 }
 
-/// Appends the type of the lexer and the result type of the function that lexes, between the paths
-/// of the library.
+/// Appends the part of a signature between the two paths of the library: the rest of the type of
+/// the lexer, and the beginning of the result type.
 fn push_answer(sink: &mut Sink, core: &str) -> Result<(), Memory>
     ensures { OnOk result (Prints (answer_text core.now) [] sink.old sink.new) }
 {
@@ -300,7 +303,7 @@ fn push_lexer_end(sink: &mut Sink, this: &str) -> Result<(), Memory>
     Ok(())
 }
 
-/// Appends the import of the items of the library that a lexer by tables uses.
+/// Appends the import of the items of the library that a table-driven lexer uses.
 pub(crate) fn push_tables_use(
     alloc: Global,
     sink: &mut Sink,

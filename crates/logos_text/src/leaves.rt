@@ -1,4 +1,5 @@
-//! Prints the leaves, and the results of their matches. `code` calls it once for all leaves.
+//! Prints the enum of the leaves, and the results of matches of the leaves. Used by `code` and
+//! `actions`.
 
 ghost use Rattle.std.specs.Prelude.{[], OnOk, string_bytes};
 ghost use Rattle.logos_text.specs.Views.{Grows, Notes, flat_map, kind_runs, kind_value, leaf_runs, variant_runs};
@@ -14,7 +15,7 @@ use logos_token::token::Ident;
 use logos_type::print_type;
 use std::alloc::Global;
 
-/// Appends the enum of the leaves, whose variants have the numbers of the leaves.
+/// Appends the enum of `count` leaves. Each variant has the number of its leaf.
 pub(crate) fn push_leaf_names(text: &mut String, count: usize) -> Result<(), Memory>
     ensures { OnOk result (Grows (string_bytes text.old) (string_bytes text.new)) }
 {
@@ -33,7 +34,8 @@ fn push_each_leaf_name(text: &mut String, count: usize) -> Result<(), Memory>
     Ok(())
 }
 
-/// Appends the variant of a leaf with its number, with a comma before all but the first.
+/// Appends the variant of the leaf with the number `leaf`, with a comma before each variant but the
+/// first.
 fn push_leaf_name(text: &mut String, leaf: usize) -> Result<(), Memory>
     ensures { OnOk result (Grows (string_bytes text.old) (string_bytes text.new)) }
 {
@@ -42,8 +44,8 @@ fn push_leaf_name(text: &mut String, leaf: usize) -> Result<(), Memory>
     Ok(())
 }
 
-/// Appends the function `_get_action`, which returns the result of a match, or of an attempt
-/// without a match.
+/// Appends the function `_get_action`, which returns the result of a match, or the error of a match
+/// attempt that found no match.
 pub(crate) fn push_get_action(
     alloc: Global,
     sink: &mut Sink,
@@ -63,7 +65,7 @@ pub(crate) fn push_get_action(
     Ok(())
 }
 
-/// Appends the match arms of all leaves, or the arm of a lexer without leaves.
+/// Appends the match arms of all leaves, or the arm for a lexer without leaves.
 fn push_arms(
     alloc: Global,
     sink: &mut Sink,
@@ -82,14 +84,14 @@ fn push_arms(
     Ok(())
 }
 
-/// Appends the match arm of a lexer without leaves, which is never taken.
+/// Appends the match arm for a lexer without leaves. The arm is never taken.
 fn push_no_arm(sink: &mut Sink) -> Result<(), Memory>
     ensures { OnOk result (Notes [] sink.old sink.new) }
 {
     sink.push("Some ( _ ) => unreachable ! ( \"There are no matchable tokens\" ) , ")
 }
 
-/// Appends the match arm of leaf `n`.
+/// Appends the match arm of leaf number `n`.
 fn push_arm(
     alloc: Global,
     sink: &mut Sink,
@@ -138,7 +140,7 @@ fn push_plain(sink: &mut Sink, kind: &VariantKind<'_>, names: Names<'_>) -> Resu
     }
 }
 
-/// Appends the result of a match that is a variant without a field.
+/// Appends the result of a match: the variant `variant`, which has no field.
 fn push_unit(sink: &mut Sink, variant: Ident<'_>, names: Names<'_>) -> Result<(), Memory>
     ensures { OnOk result (Notes (variant_runs names.entry.name variant.entry) sink.old sink.new) }
 {
@@ -148,7 +150,7 @@ fn push_unit(sink: &mut Sink, variant: Ident<'_>, names: Names<'_>) -> Result<()
     Ok(())
 }
 
-/// Appends the result of a match that is a variant whose field is the matched slice.
+/// Appends the result of a match: the variant `variant` with the matched slice as its field.
 fn push_value(sink: &mut Sink, variant: Ident<'_>, names: Names<'_>) -> Result<(), Memory>
     ensures { OnOk result (Notes (variant_runs names.entry.name variant.entry) sink.old sink.new) }
 {
@@ -172,7 +174,7 @@ pub(crate) fn push_variant(
     Ok(())
 }
 
-/// Appends the result of a match of this kind, computed from the result of its callback.
+/// Appends the result of a match for the kind `kind`, computed from the result of the callback.
 fn push_result(
     alloc: Global,
     sink: &mut Sink,
@@ -191,7 +193,7 @@ fn push_result(
     }
 }
 
-/// Appends the result of a match of a skip, computed from the result of its callback.
+/// Appends the result of a match of a skip, computed from the result of the callback.
 fn push_skip_result(sink: &mut Sink, names: Names<'_>) -> Result<(), Memory>
     ensures { OnOk result (Notes [] sink.old sink.new) }
 {
@@ -203,8 +205,8 @@ fn push_skip_result(sink: &mut Sink, names: Names<'_>) -> Result<(), Memory>
     Ok(())
 }
 
-/// Appends the result of a match, computed from that of its callback, for a variant without a
-/// field.
+/// Appends the result of a match for a variant without a field, computed from the result of the
+/// callback.
 fn push_unit_result(sink: &mut Sink, variant: Ident<'_>, names: Names<'_>) -> Result<(), Memory>
     ensures { OnOk result (Notes (variant_runs names.entry.name variant.entry) sink.old sink.new) }
 {
@@ -218,8 +220,8 @@ fn push_unit_result(sink: &mut Sink, variant: Ident<'_>, names: Names<'_>) -> Re
     Ok(())
 }
 
-/// Appends the result of a match, computed from that of its callback, for a variant with a field of
-/// this type.
+/// Appends the result of a match for a variant with a field of the type `field`, computed from the
+/// result of the callback.
 fn push_value_result(
     sink: &mut Sink,
     variant: Ident<'_>,

@@ -1,4 +1,4 @@
-//! Prints a code value as generated code. `logos_codegen` calls it.
+//! Prints a code value as generated code. Called by `logos_codegen`.
 
 #![tactic(auto)]
 

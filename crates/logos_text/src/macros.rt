@@ -1,4 +1,4 @@
-//! Prints the macros of a lexer. `code` calls it before it prints the states.
+//! Prints the macros of a lexer, which precede its states. Called by `code`.
 
 ghost use Rattle.std.specs.Prelude.{OnOk, string_bytes};
 ghost use Rattle.logos_text.specs.Imports.{Grows};
@@ -36,8 +36,8 @@ fn push_block_tests(text: &mut String, factor: usize) -> Result<(), Memory>
     Ok(())
 }
 
-/// Appends the macro `_take_action`, which ends a match attempt: it returns an item, or begins the
-/// next attempt after a skip.
+/// Appends the macro `_take_action`, which ends a match attempt. The macro returns an item, or
+/// begins the next match attempt after a skip. `root` is the number of the root.
 pub(crate) fn push_take_action_macro(
     text: &mut String,
     root: usize,
@@ -56,7 +56,8 @@ pub(crate) fn push_take_action_macro(
     )
 }
 
-/// Appends the step to the root, with which the next attempt begins.
+/// Appends the step that begins the next match attempt in the root. `root` is the number of the
+/// root.
 fn push_restart(text: &mut String, root: usize, names: Names<'_>) -> Result<(), Memory>
     ensures { OnOk result (Grows (string_bytes text.old) (string_bytes text.new)) }
 {

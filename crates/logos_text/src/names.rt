@@ -1,12 +1,12 @@
-//! The names that all parts of generated code use. Made by `code` once, for all printers.
+//! The names that all parts of generated code use. Created once, by `code`, for all printers.
 
 ghost use Rattle.std.specs.Prelude.{◌≡◌};
 
 use logos_code::code::{CodeParts, Config};
 use logos_token::token::Ident;
 
-/// The values that all parts of a text use: its shape, the name of the enum, and the enum as a
-/// type.
+/// The values that all printers of a text use: the shape of the text, the name of the enum, and the
+/// printed type of the enum.
 #[derive(Clone, Copy)]
 pub(crate) struct Names<'p> {
     pub(crate) shape: Config,
@@ -15,7 +15,8 @@ pub(crate) struct Names<'p> {
 }
 
 impl<'p> Names<'p> {
-    /// Returns the names for the text of this code, where `this` is the enum as a type.
+    /// Returns the names for the text of the code with the parts `parts`. `this` is the printed
+    /// type of the enum.
     pub(crate) fn new(parts: &'p CodeParts<'_>, this: &'p str) -> Names<'p>
         ensures shape { result.shape ≡ parts.now.header.shape }
         ensures name { result.name ≡ parts.now.header.name }

@@ -21,8 +21,8 @@ pub(crate) fn push(text: &mut String, part: &str) -> Result<(), Memory>
     Ok(())
 }
 
-/// Returns the text before the element `n` of a list: a comma and a space, or nothing before
-/// element 0.
+/// Returns the text before the element at the index `n` of a list: a comma and a space, or nothing
+/// before the first element.
 pub(crate) fn comma_before(n: usize) -> &'static str
     ensures { result.now ≡ (if n == 0 then codes "" else codes ", ") }
 {

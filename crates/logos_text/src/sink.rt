@@ -1,4 +1,4 @@
-//! The output of printers: a text, and the pieces of the source in this text. Made by `code`, and
+//! The output of printers: a text, and the pieces of the source in the text. Created by `code`, and
 //! written by all printers of a user's tokens.
 
 ghost use Rattle.std.specs.Prelude.{[], OnOk};
@@ -10,8 +10,8 @@ use logos_token::error::Memory;
 use logos_token::token::{Ident, Span, Tokens, print};
 use std::alloc::Global;
 
-/// Tokens of a source that a text repeats: bytes `from..to` of the text are the printed tokens at
-/// `span` of the source.
+/// Tokens of a source that a text repeats. The bytes `from..to` of the text are the printed form of
+/// the tokens at `span` in the source.
 #[derive(Clone, Copy, Debug, PartialEq, Eq)]
 pub struct Piece {
     pub from: usize,
@@ -34,9 +34,10 @@ pub struct Call {
 pub struct Sink {
     /// The printed text.
     pub text: String,
-    /// The pieces, in the order of the text. No two overlap.
+    /// The pieces, in the order in which they occur in the text. No two pieces overlap.
     pub pieces: Vec<Piece>,
-    /// The statements with callbacks, in the order of the text. No contract describes them.
+    /// The statements that call callbacks, in the order in which they occur in the text. No
+    /// contract describes them.
     pub calls: Vec<Call>,
 }
 
@@ -68,8 +69,8 @@ impl Sink {
         Ok(())
     }
 
-    /// Appends tokens of the source as a piece, without the gap after them, or nothing if there are
-    /// no tokens.
+    /// Appends tokens of the source as a piece, without the gap after them. Appends nothing if
+    /// there are no tokens.
     fn push_tokens(&mut self, alloc: Global, tokens: Tokens<'_, '_>) -> Result<(), Memory>
         ensures { OnOk result (Prints (printed (tokens_of tokens.entry))
             (noted_runs (tokens_of tokens.entry)) self.old self.new) }
@@ -92,7 +93,7 @@ impl Sink {
         Ok(())
     }
 
-    /// Appends a piece: the printed text of tokens, which have this span in the source.
+    /// Appends a piece: `text`, the printed form of the tokens at `span` in the source.
     fn push_piece(&mut self, text: &str, span: Span) -> Result<(), Memory>
         ensures { OnOk result (PrintsPiece text.now span self.old self.new) }
     {
@@ -103,7 +104,7 @@ impl Sink {
         Ok(())
     }
 
-    /// Records that the statement that begins at the end of the text calls `callback`.
+    /// Records that the statement that is appended next calls `callback`.
     pub(crate) fn note_call(&mut self, callback: &Callback<'_>) -> Result<(), Memory>
         ensures { OnOk result (Prints [] [] self.old self.new) }
     {

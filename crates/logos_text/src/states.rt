@@ -1,4 +1,5 @@
-//! Prints states, for a loop over a state variable or a function for each state. `code` calls it.
+//! Prints the states of a lexer, as match arms of a loop or as one function for each state. Called
+//! by `code`.
 
 ghost use Rattle.std.specs.Prelude.{OnOk, map, string_bytes};
 ghost use Rattle.logos_text.specs.Imports.{flat_map, state_of, Adds, Grows, state_texts};
@@ -11,7 +12,7 @@ use logos_code::code::{CodeParts, CodeState, Config, Mark};
 use logos_token::error::Memory;
 use std::alloc::Global;
 
-/// Appends the fast loop for the test with this number, or nothing for `None`.
+/// Appends the fast loop for the test with the number `fast_loop`, or nothing for `None`.
 fn push_fast_loop(text: &mut String, fast_loop: Option<usize>) -> Result<(), Memory>
     ensures { OnOk result (Grows (string_bytes text.old) (string_bytes text.new)) }
 {
@@ -23,8 +24,8 @@ fn push_fast_loop(text: &mut String, fast_loop: Option<usize>) -> Result<(), Mem
     push(text, " == 0 } _fast_loop ! ( lex , loop_test , offset ) ; ")
 }
 
-/// Returns the text that is subtracted from `offset` in the end of a match: one byte if its mark is
-/// late, and nothing otherwise.
+/// Returns the text that follows `offset` in the expression for the end of a match: the subtraction
+/// of one byte if the match's mark is late, and nothing otherwise.
 fn distance(late: bool) -> &'static str {
     if late { " - 1" } else { "" }
 }
@@ -45,7 +46,7 @@ fn push_mark(text: &mut String, mark: Option<Mark>) -> Result<(), Memory>
     Ok(())
 }
 
-/// Appends the step of the root at the end of the input if no byte was read: it returns `None`.
+/// Appends the step of the root that returns `None` at the end of the input if no byte was read.
 /// Appends nothing for other states.
 fn push_nothing_read(text: &mut String, is_root: bool) -> Result<(), Memory>
     ensures { OnOk result (Grows (string_bytes text.old) (string_bytes text.new)) }
@@ -56,7 +57,8 @@ fn push_nothing_read(text: &mut String, is_root: bool) -> Result<(), Memory>
     push(text, "if lex . offset ( ) == offset { return None } ")
 }
 
-/// Appends the step to `at_end` at the end of the input, or nothing for `None`.
+/// Appends the step to the state with the number `at_end` at the end of the input, or nothing for
+/// `None`.
 fn push_at_end(text: &mut String, at_end: Option<usize>, shape: Config) -> Result<(), Memory>
     ensures { OnOk result (Grows (string_bytes text.old) (string_bytes text.new)) }
 {
@@ -68,7 +70,8 @@ fn push_at_end(text: &mut String, at_end: Option<usize>, shape: Config) -> Resul
     push(text, " ")
 }
 
-/// Appends the start of state `s`: a match arm, or the signature of a function.
+/// Appends the head of the state with the number `s`: the pattern of a match arm, or the signature
+/// of a function.
 fn push_head(text: &mut String, s: usize, names: Names<'_>) -> Result<(), Memory>
     ensures { OnOk result (Grows (string_bytes text.old) (string_bytes text.new)) }
 {
@@ -84,8 +87,8 @@ fn push_head(text: &mut String, s: usize, names: Names<'_>) -> Result<(), Memory
     Ok(())
 }
 
-/// Appends the steps of the state `s` before its fork: its fast loop, its mark, and the read of a
-/// byte.
+/// Appends the beginning of the state with the number `s`, before its fork: its fast loop, its
+/// mark, and the read of a byte.
 fn push_before(
     text: &mut String,
     s: usize,
@@ -103,7 +106,7 @@ fn push_before(
     )
 }
 
-/// Appends the steps of a state at the end of the input, and for bytes that lead to no state.
+/// Appends the steps of a state for the end of the input and for bytes that lead to no state.
 fn push_after(
     text: &mut String,
     is_root: bool,
@@ -121,7 +124,7 @@ fn push_after(
     )
 }
 
-/// Appends state `s`.
+/// Appends `state`, the state with the number `s`.
 fn push_state(
     alloc: Global,
     text: &mut String,
@@ -156,7 +159,7 @@ pub(crate) fn push_states(
     Ok(())
 }
 
-/// Appends the names of `count` states, sorted as texts.
+/// Appends the names of `count` states, in lexicographic order.
 fn push_state_names(alloc: Global, text: &mut String, count: usize) -> Result<(), Memory>
     ensures { OnOk result (Grows (string_bytes text.old) (string_bytes text.new)) }
 {
@@ -167,7 +170,8 @@ fn push_state_names(alloc: Global, text: &mut String, count: usize) -> Result<()
     Ok(())
 }
 
-/// Appends `name`, the element `n` of a list of names, with a comma before all but the first.
+/// Appends `name` as the element at the index `n` of a list of names, with a comma before each
+/// element but the first.
 fn push_state_name(text: &mut String, n: usize, name: &str) -> Result<(), Memory>
     ensures { OnOk result (Grows (string_bytes text.old) (string_bytes text.new)) }
 {
@@ -176,7 +180,7 @@ fn push_state_name(text: &mut String, n: usize, name: &str) -> Result<(), Memory
     Ok(())
 }
 
-/// Returns the names of `count` states, sorted as texts.
+/// Returns the names of `count` states, in lexicographic order.
 fn state_names(alloc: Global, count: usize) -> Result<Vec<String>, Memory> {
     let mut names = Vec::new(alloc);
     for s in 0..count {
@@ -187,7 +191,7 @@ fn state_names(alloc: Global, count: usize) -> Result<Vec<String>, Memory> {
 }
 
 /// Appends the text before the states: the enum of the states, the variables and the beginning of
-/// the loop, or nothing in the shape with a function for each state.
+/// the loop. Appends nothing in the shape with a function for each state.
 pub(crate) fn push_opening(
     alloc: Global,
     text: &mut String,
@@ -209,8 +213,8 @@ pub(crate) fn push_opening(
     Ok(())
 }
 
-/// Appends the text after the states: the end of the loop, or in the shape with a function for each
-/// state the call of the root's function.
+/// Appends the text after the states: the end of the loop, or the call of the root's function in
+/// the shape with a function for each state.
 pub(crate) fn push_closing(text: &mut String, root: usize, shape: Config) -> Result<(), Memory>
     ensures { OnOk result (Grows (string_bytes text.old) (string_bytes text.new)) }
 {

@@ -1,5 +1,5 @@
-//! Prints bit tables. `code` calls it before it prints the states, whose conditions name the
-//! tables.
+//! Prints the bit tables, which the conditions of states name. Called by `code` before it prints
+//! the states.
 
 ghost use Rattle.std.specs.Prelude.{◌≡◌, ◌++◌, ◌∷◌, [], OnOk, codes, string_bytes};
 ghost use Rattle.logos_text.specs.Imports.{flat_map, join_by, entry_text, table_text, table_texts, Adds};

@@ -1,5 +1,5 @@
-//! The faults found in a source, in the order in which they were found. Every crate that reads a
-//! source adds its faults to an `Errors`.
+//! The list of the faults found in a source. Every crate that reads a source adds its faults to an
+//! `Errors`.
 
 mod detail;
 mod fault_code;
@@ -13,7 +13,7 @@ use std::error::Error;
 use std::fmt;
 use std::marker::Model;
 
-/// The error of a call that runs out of memory.
+/// The error of a call that ran out of memory.
 #[derive(Clone, Copy, Debug, PartialEq, Eq)]
 pub struct Memory;
 
@@ -37,13 +37,13 @@ impl fmt::Display for Memory {
 
 impl Error for Memory {}
 
-/// A fault: its code, its message and its span in the source.
+/// A fault in a source, with its code, its message and its spans.
 #[derive(Debug, Drop)]
 pub struct SpannedError {
     pub code: FaultCode,
     pub message: String,
     pub span: Span,
-    /// A second span that the fault is about, or `None` if the fault is about one span.
+    /// The second span of a fault about two spans, or `None` if the fault is about one span.
     pub also: Option<Span>,
     /// The detail of the fault.
     pub detail: Detail,
@@ -71,7 +71,7 @@ impl Errors {
     ghost use Rattle.std.specs.Prelude.{◌≡◌, ◌++◌, ◌∷◌, [], OnOk, OnErr, Some, None};
     ghost use Rattle.logos_token.specs.ViewImports.{faults_of};
 
-    /// Returns an empty list of faults, which takes its memory from `alloc`.
+    /// Returns an empty list of faults that takes its memory from `alloc`.
     pub fn new(alloc: Global) -> Errors
         ensures { result ≡ [] }
     {
@@ -81,7 +81,7 @@ impl Errors {
         }
     }
 
-    /// Adds a fault at the end of the list, with neither a second span nor a detail.
+    /// Adds a fault without a second span and without a detail to the end of the list.
     ///
     /// # Errors
     ///
@@ -99,7 +99,7 @@ impl Errors {
         self.add(code, message, span, None, Detail::Plain)
     }
 
-    /// Adds a fault with the detail `detail` at the end of the list.
+    /// Adds a fault with the detail `detail` to the end of the list.
     ///
     /// # Errors
     ///
@@ -123,7 +123,7 @@ impl Errors {
         self.add(code, message, span, None, detail)
     }
 
-    /// Adds a fault that is about the two spans `span` and `also` at the end of the list.
+    /// Adds a fault with the spans `span` and `also` to the end of the list.
     ///
     /// # Errors
     ///
@@ -147,7 +147,7 @@ impl Errors {
         self.add(code, message, span, Some(also), Detail::Plain)
     }
 
-    /// Adds the faults of `more` at the end of the list, in their order.
+    /// Adds the faults of `more` to the end of the list, in their order.
     ///
     /// # Errors
     ///
@@ -172,7 +172,7 @@ impl Errors {
         &self.collected
     }
 
-    /// Adds a fault at the end of the list. After an error the list is unchanged.
+    /// Adds a fault to the end of the list. After an error the list is unchanged.
     fn add(
         &mut self,
         code: FaultCode,

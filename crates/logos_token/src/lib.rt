@@ -1,5 +1,5 @@
-//! Reads a source text into tokens with their spans, collects the faults found in it, and provides
-//! small helpers for both. All crates that read sources use it.
+//! Reads a source text into tokens with their spans, collects the faults found in the source, and
+//! provides small helpers for tokens and faults. All crates that read sources use this crate.
 
 #![tactic(auto)]
 

@@ -1,5 +1,5 @@
-//! Tokens of a source text: `reader` makes them, and `views` provides access to them. Every crate
-//! that reads sources uses them.
+//! The tokens of a source text. `reader` creates them, and `views` provides access to them. Every
+//! crate that reads sources uses this module.
 
 mod entry;
 mod laws;
@@ -15,7 +15,7 @@ pub use reader::{TokenError, spelled_in_order, spells_once, tokenize};
 pub use value::LiteralValue;
 pub use views::{Group, TokenIter, TokenStream, TokenTree, Tokens};
 
-/// An identifier of a source, with its `r#` if it has one.
+/// An identifier of a source, including its prefix `r#` if it has one.
 #[derive(Clone, Copy)]
 pub struct Ident<'s> {
     pub text: &'s str,
@@ -30,15 +30,15 @@ pub struct Punct {
     pub span: Span,
 }
 
-/// A literal of a source, with its suffix if it has one.
+/// A literal of a source, including its suffix if it has one.
 #[derive(Clone, Copy)]
 pub struct Literal<'s> {
     pub text: &'s str,
     pub span: Span,
 }
 
-/// A documentation comment, as written in the source. A line comment does not include the end of
-/// its line.
+/// A documentation comment as written in the source. The text of a line comment does not include
+/// the end of the line.
 #[derive(Clone, Copy)]
 pub struct Doc<'s> {
     pub text: &'s str,

@@ -27,8 +27,8 @@ pub fn is_punct(tree: &TokenTree<'_, '_>, expected: char) -> bool
     }
 }
 
-/// Returns `tree` unless it is the punctuation `expected` with the spacing `Alone`. Returns `None`
-/// in that case, and if `tree` is `None`.
+/// Returns `None` if `tree` is the punctuation `expected` with the spacing `Alone`, and `tree`
+/// otherwise.
 pub fn expect_punct<'t, 's>(
     tree: Option<TokenTree<'t, 's>>,
     expected: char,
@@ -45,7 +45,8 @@ pub fn expect_punct<'t, 's>(
 
 /// A conversion to an identifier.
 pub trait ToIdent<'a> {
-    /// Returns the identifier with this text. It is not in the source: its span is `0..0`.
+    /// Returns the identifier with this text. The identifier does not occur in the source, and its
+    /// span is `0..0`.
     fn to_ident(self) -> Ident<'a>;
 }
 
@@ -61,7 +62,7 @@ impl<'a> ToIdent<'a> for &'a str {
     }
 }
 
-/// A stream of tokens, or `Void` for no stream. `Void` is printed as `( )`.
+/// A stream of tokens, or `Void` if there is no stream. `Void` is printed as `( )`.
 #[derive(Drop)]
 pub enum MaybeVoid<'s> {
     Some(TokenStream<'s>),

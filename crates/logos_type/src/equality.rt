@@ -1,4 +1,5 @@
-//! Compares types by their parts, regardless of their spans. Users of the library call it.
+//! Compares types by their parts, regardless of their spans. Users of the library call
+//! `is_same_type`.
 
 ghost use Rattle.std.specs.Prelude.{◌≡◌, ◌↔◌, IsTrue, map};
 ghost use Rattle.logos_type.specs.Views.{sign_of, tree_of, type_tree};
@@ -28,7 +29,7 @@ fn is_same_leaf(leaf: &TypeToken<'_>, other: &TypeToken<'_>) -> bool
     }
 }
 
-/// Returns whether two lists have equal parts in the same order.
+/// Returns whether the lists `parts` and `others` have equal parts in the same order.
 #[cycle(equality)]
 fn are_same_parts(parts: &[TypePart<'_>], others: &[TypePart<'_>]) -> bool
     ensures { IsTrue result ↔ (map tree_of parts.now ≡ map tree_of others.now) }

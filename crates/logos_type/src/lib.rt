@@ -1,5 +1,5 @@
-//! Rust types in an enum's fields and in attributes: their parts, and their printing, copying and
-//! comparison. `logos_type_reader` makes the types.
+//! Represents the Rust types in an enum's fields and in attributes, and prints, copies and compares
+//! these types. `logos_type_reader` makes the types.
 
 #![tactic(auto)]
 

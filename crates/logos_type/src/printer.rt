@@ -1,5 +1,5 @@
-//! Prints types. `logos_text` and `logos_tables` call it for the types of generated code, and
-//! `logos_definition` for the error type.
+//! Prints types. `logos_text` and `logos_tables` call `print_type` for the types of generated code,
+//! and `logos_definition` calls it for the error type.
 
 ghost use Rattle.std.specs.Prelude.{◌≡◌, IfOk, OnOk, fold, string_bytes};
 ghost use Rattle.logos_type.specs.Views.{print_part, printed_of, sign_of, tree_of, lifetime_parts, sign_parts, type_parts, printed_type, type_tree};
@@ -9,7 +9,7 @@ use logos_token::error::Memory;
 use logos_token::token::{Printer, closing_text, gap_after, gap_after_doc, opening_text};
 use std::alloc::Global;
 
-/// Prints a lifetime, `'` and the name `text`.
+/// Prints a lifetime as `'` and the name `text`.
 fn add_lifetime(printer: &mut Printer, text: &str) -> Result<(), Memory>
     ensures { OnOk result (printed_of printer.new ≡
         fold print_part (printed_of printer.old) (lifetime_parts text.now)) }
@@ -18,7 +18,7 @@ fn add_lifetime(printer: &mut Printer, text: &str) -> Result<(), Memory>
     printer.add(text, " ")
 }
 
-/// Prints `&`, and the lifetime after it if there is one.
+/// Prints `&`, followed by `lifetime` if there is one.
 fn add_reference(printer: &mut Printer, lifetime: Option<&str>) -> Result<(), Memory>
     ensures { OnOk result (printed_of printer.new ≡
         fold print_part (printed_of printer.old)
@@ -55,7 +55,7 @@ fn add_leaf(printer: &mut Printer, leaf: TypeToken<'_>) -> Result<(), Memory>
     }
 }
 
-/// Prints a part, with all parts inside it.
+/// Prints a part, including all parts inside it.
 fn add_part(printer: &mut Printer, part: &TypePart<'_>) -> Result<(), Memory>
     ensures { OnOk result (printed_of printer.new ≡
         fold print_part (printed_of printer.old) (type_parts (tree_of part.now))) }
@@ -72,9 +72,9 @@ fn add_part(printer: &mut Printer, part: &TypePart<'_>) -> Result<(), Memory>
     }
 }
 
-/// Returns the text of a type: its tokens, separated by one space. `<`, `>` and `&` are lexemes of
-/// their own; each of `::`, `->` and a lifetime is one lexeme. The tokens of an array's length and
-/// of braces keep their spacing.
+/// Returns the text of a type: its tokens, separated by single spaces. Each `<`, `>`, `&`, `::`,
+/// `->` and lifetime is a token of its own. The tokens in the length of an array and in braces keep
+/// their spacing.
 ///
 /// # Errors
 ///

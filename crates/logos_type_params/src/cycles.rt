@@ -10,14 +10,14 @@ mod reference;
 
 use std::alloc::{AllocError, Global};
 
-/// Returns for each node whether it lies on a cycle. `lists` contains, for each node at the index
-/// of its number, the numbers of the nodes to which its edges lead. Numbers for which there is no
-/// node are ignored.
+/// Returns, for each node, whether it lies on a cycle. The list of a node is at the index of its
+/// number in `lists`, and contains the numbers of the nodes to which its edges lead. Numbers
+/// without a node are ignored.
 ///
-/// Two traversals find the components of the graph, and the components are checked before the
-/// result is read from them. This takes time linear in the numbers of nodes and edges. The check
-/// has never been observed to fail. If it fails, a traversal from each node computes the same
-/// result, in time that grows with the product of the two numbers.
+/// Two traversals find the strongly connected components of the graph, and the components are
+/// checked before the result is read from them. This takes time linear in the numbers of nodes and
+/// edges. The check has never been observed to fail. If the check fails, a traversal from each node
+/// computes the same result, in time that grows with the product of the two numbers.
 ///
 /// # Errors
 ///

@@ -1,5 +1,5 @@
-//! The types given to the parameters, and their search by name. `type_params` stores a type for
-//! each parameter, and `substitution` searches for it.
+//! Stores the types given to the parameters, and finds them by name. `type_params` inserts a type
+//! for each parameter, and `substitution` searches for the types.
 
 ghost use Rattle.std.specs.Prelude.{◌≡◌, ◌++◌, ◌∷◌, [], ◌<◌, None, Some, length, option_copied, IfSome, OnOk, OnErr};
 ghost use Rattle.std.specs.Map.{lookup};
@@ -14,8 +14,8 @@ use std::collections::HashMap;
 /// The types given to the parameters, at most one for each name.
 #[derive(Drop)]
 pub struct GivenTypes<'s> {
-    /// The types with the names to which they are given, in the order in which these names first
-    /// received a type.
+    /// The names with the types given to them, in the order in which the names first received a
+    /// type.
     pub(crate) entries: Vec<(&'s str, TypeParam<'s>)>,
     /// For each name, the index of its type in `entries`.
     slots: HashMap<&'s str, usize>,
@@ -23,7 +23,7 @@ pub struct GivenTypes<'s> {
 }
 
 impl<'s> GivenTypes<'s> {
-    /// Returns an empty list of types, which takes its memory from `alloc`.
+    /// Returns an empty list of types that takes its memory from `alloc`.
     pub fn new(alloc: Global) -> GivenTypes<'s>
         ensures { result.entries.items ≡ [] }
     {
@@ -33,8 +33,8 @@ impl<'s> GivenTypes<'s> {
         }
     }
 
-    /// Returns the index in `entries` of the type given to the name `text`, or `None` if it has
-    /// none.
+    /// Returns the index in `entries` of the type given to the name `text`, or `None` if the name
+    /// has no type.
     pub(crate) fn slot_of(&self, text: &str) -> Option<usize>
         ensures slot { result ≡ slot_in self.now.entries.items text.now }
         ensures within { IfSome result (λ at. at < length self.now.entries.items) }
@@ -42,7 +42,7 @@ impl<'s> GivenTypes<'s> {
         self.slots.get(text).copied()
     }
 
-    /// Returns the type given to the name `text`, or `None` if it has none.
+    /// Returns the type given to the name `text`, or `None` if the name has no type.
     pub fn get(&self, text: &str) -> Option<&TypeParam<'s>>
         ensures { option_copied result ≡
             lookup (λ k. bytes_eq text.now k.now) self.now.entries.items }
@@ -53,16 +53,16 @@ impl<'s> GivenTypes<'s> {
         }
     }
 
-    /// Returns the types with the names to which they are given, in the order in which these names
-    /// first received a type.
+    /// Returns the names with the types given to them, in the order in which the names first
+    /// received a type.
     pub fn list(&self) -> &[(&'s str, TypeParam<'s>)]
         ensures { result.now ≡ self.now.entries.items }
     {
         self.entries.as_slice()
     }
 
-    /// Assigns the type `param` to the name `text`. If the name already has a type, the new one
-    /// replaces it at its index.
+    /// Assigns the type `param` to the name `text`. If the name already has a type, the new type
+    /// replaces the old one at its index.
     ///
     /// # Errors
     ///
@@ -83,8 +83,8 @@ impl<'s> GivenTypes<'s> {
         }
     }
 
-    /// Appends the name `text`, which has no type yet, and its type. After an error the types are
-    /// unchanged.
+    /// Appends the name `text` with the type `param`. The name has no type yet. After an error the
+    /// types are unchanged.
     fn add(&mut self, text: &'s str, param: TypeParam<'s>) -> Result<(), Memory>
         requires { slot_in self.old.entries.items text.now ≡ None }
         ensures ok { OnOk result

@@ -1,5 +1,5 @@
 //! Stores the declared type parameters of an enum and the types given to them, and replaces
-//! parameters and lifetimes in types. The parser of `logos_definition` has a `TypeParams`.
+//! parameters and lifetimes in types. The parser of `logos_definition` contains a `TypeParams`.
 
 #![tactic(auto)]
 

@@ -9,8 +9,8 @@ use logos_token::error::Memory;
 use logos_type::{TypeExpr, TypePart};
 use std::alloc::{AllocError, Global};
 
-/// Returns a copy of `part` in which the lifetimes of references, and of the angle arguments of
-/// paths that are types, are `'s`, at any depth.
+/// Returns a copy of `part` with lifetimes set to `'s` at any depth: the lifetimes of references,
+/// and the lifetimes among the angle-bracketed arguments of paths that are types.
 pub(crate) fn set_lifetimes<'s>(
     alloc: Global,
     part: &TypePart<'s>,
@@ -31,7 +31,7 @@ pub(crate) fn set_lifetimes<'s>(
     }
 }
 
-/// Returns a copy of `part`, with its lifetime set to `'s` if it is a token that has one. A type is
+/// Returns a copy of `part`. If `part` is a token, `set_lifetime` is applied to the copy. A type is
 /// copied unchanged.
 fn set_own<'s>(part: &TypePart<'s>) -> Result<TypePart<'s>, AllocError>
     ensures { IfOk result (λ after. tree_of after ≡ own_lifetime (tree_of part.now)) }
@@ -42,7 +42,8 @@ fn set_own<'s>(part: &TypePart<'s>) -> Result<TypePart<'s>, AllocError>
     }
 }
 
-/// Returns the type of copies of `parts`, in which each token that has a lifetime has `'s`.
+/// Returns the type that consists of copies of `parts`, with `set_lifetime` applied to each token
+/// among them.
 fn set_each<'s>(alloc: Global, parts: &[TypePart<'s>]) -> Result<TypePart<'s>, AllocError>
     ensures { IfOk result (λ after. tree_of after ≡
         with_lifetime (whole (trees (map tree_of parts.now)))) }
@@ -54,10 +55,12 @@ fn set_each<'s>(alloc: Global, parts: &[TypePart<'s>]) -> Result<TypePart<'s>, A
     Ok(TypePart::Whole(after))
 }
 
-/// Returns the type with its lifetimes and those of all types inside it set to `'s`: the lifetime
-/// of a reference, which is added if there is none, and the lifetimes among the angle arguments of
-/// a path that is a type. Other lifetimes are unchanged, such as those of `dyn` and `for<..>`.
-/// Parts that are never replaced are also unchanged, such as the type before `as`.
+/// Returns a copy of the type with lifetimes set to `'s` at any depth.
+///
+/// This sets the lifetimes of references, and the lifetimes among the angle-bracketed arguments of
+/// paths that are types. A reference without a lifetime receives one. Other lifetimes are
+/// unchanged, such as the lifetimes of `dyn` and `for<..>`. Parts that are never replaced are also
+/// unchanged, such as the type before `as`.
 ///
 /// # Errors
 ///
@@ -72,9 +75,9 @@ pub fn replace_lifetimes<'s>(
     Ok(TypeExpr { part })
 }
 
-/// Returns the type with its own lifetimes set to `'s`: the lifetime of a reference, which is added
-/// if there is none, or those among the angle arguments of a path that is a type. The types inside
-/// it and any other type are unchanged.
+/// Returns a copy of the type with its own lifetimes set to `'s`. For a reference, this sets its
+/// lifetime, or adds one if there is none. For a path that is a type, this sets the lifetimes among
+/// its angle-bracketed arguments. Any other type and all inner types are unchanged.
 ///
 /// # Errors
 ///

@@ -1,4 +1,5 @@
-//! Names in the order in which they are declared. `TypeParams` stores its parameters as such names.
+//! Stores names in the order of their declaration. `TypeParams` contains the names of its
+//! parameters as a `DeclaredNames`.
 
 ghost use Rattle.std.specs.Prelude.{map, ◌≡◌, ◌++◌, ◌∷◌, [], OnOk, OnErr};
 ghost use Rattle.logos_type_params.specs.Imports.{is_declared};
@@ -21,7 +22,7 @@ pub(crate) struct DeclaredNames<'s> {
 }
 
 impl<'s> DeclaredNames<'s> {
-    /// Returns an empty list.
+    /// Returns an empty list that takes its memory from `alloc`.
     pub(crate) fn new(alloc: Global) -> DeclaredNames<'s>
         ensures { result.list.items ≡ [] }
     {

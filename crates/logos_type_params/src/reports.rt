@@ -1,4 +1,4 @@
-//! Reports faults of names and types. Each function adds one fault. `logos_definition` and this
+//! Reports faults in names and types. Each function adds one fault. `logos_definition` and this
 //! crate call these functions.
 
 ghost use Rattle.std.specs.Prelude.{◌≡◌, ◌++◌, ◌∷◌, [], IfOk, OnOk, OnErr, string_bytes};
@@ -19,7 +19,8 @@ fn joined(alloc: Global, before: &str, text: &str, after: &str) -> Result<String
     Ok(message)
 }
 
-/// Reports a fault of `name` at its span. The message is `before`, the name and `after`.
+/// Reports a fault about `name` at its span. The message consists of `before`, the name and
+/// `after`.
 ///
 /// # Errors
 ///
@@ -38,8 +39,8 @@ pub fn report_about(
     report_about_with(errors, code, before, name, after, Detail::Plain)
 }
 
-/// Reports a fault of `name` at its span, with `detail`. The message is `before`, the name and
-/// `after`.
+/// Reports a fault about `name` at its span, with the detail `detail`. The message consists of
+/// `before`, the name and `after`.
 ///
 /// # Errors
 ///
@@ -61,7 +62,8 @@ pub fn report_about_with(
     Ok(())
 }
 
-/// Reports `at`, the span of an earlier value, after the fault that refers to it.
+/// Reports the span `at` of an earlier value. The fault that refers to this value has been reported
+/// before.
 ///
 /// # Errors
 ///
@@ -73,7 +75,7 @@ pub fn report_previous(errors: &mut Errors, at: Span) -> Result<(), Memory>
     errors.err(FaultCode::Previous, "Previously assigned here", at)
 }
 
-/// Returns the message of a fault of too many nested types.
+/// Returns the message of the fault that too many types are nested.
 pub fn type_nesting_text() -> &'static str
     ensures { result.now ≡ type_nesting_text }
 {

@@ -1,5 +1,5 @@
-//! Finds each type parameter whose type contains that parameter. `type_params` calls `Chains::new`
-//! once all attributes of an enum are read.
+//! Finds each type parameter from which a chain of types leads back to this parameter.
+//! `type_params` calls `Chains::new` after all attributes of an enum have been read.
 
 ghost use Rattle.std.specs.Prelude.{◌≡◌, ◌↔◌, [], length, map, IfOk, OnOk, IsTrue};
 ghost use Rattle.logos_type_params.specs.Views.{name, tree_of, names, Leads, Reaches, AreReached};
@@ -10,7 +10,8 @@ use crate::given_types::GivenTypes;
 use logos_type::TypePart;
 use std::alloc::{AllocError, Global};
 
-/// The types given to the parameters, with the names from which a chain of types leads back.
+/// The types given to the parameters, and for each type, whether a chain of types leads back to its
+/// name.
 #[derive(Drop)]
 pub(crate) struct Chains<'p, 's> {
     /// The types given to the names.
@@ -20,7 +21,7 @@ pub(crate) struct Chains<'p, 's> {
     ghost fits: { length held.items ≡ length types.now.entries.items },
 }
 
-/// Appends to `reached` the index of the type that is given to the name `text`, if it has one.
+/// Appends to `reached` the index of the type given to the name `text`, if the name has a type.
 fn reach_name<'s>(
     types: &GivenTypes<'s>,
     text: &str,
@@ -36,8 +37,8 @@ fn reach_name<'s>(
     Ok(())
 }
 
-/// Appends to `reached` the indices of the types given to the names among the parts of a type,
-/// except in parts that are never replaced.
+/// Appends to `reached` the indices of the types given to the names in `part`. Names in parts that
+/// are never replaced do not count.
 fn reach<'s>(
     types: &GivenTypes<'s>,
     part: &TypePart<'s>,
@@ -58,7 +59,7 @@ fn reach<'s>(
     }
 }
 
-/// Returns for each type the indices of the types given to the names in it.
+/// Returns, for each type, the indices of the types given to the names in this type.
 fn all_reached<'s>(alloc: Global, types: &GivenTypes<'s>) -> Result<Vec<Vec<usize>>, AllocError>
     ensures { IfOk result (λ lists. AreReached (map param_value types.now.entries.items)
         (map param_value types.now.entries.items) (map (λ list. list.items) lists.items)) }
@@ -76,7 +77,7 @@ impl<'p, 's> Chains<'p, 's> {
     ghost use Rattle.std.specs.Prelude.{◌≡◌, ◌↔◌, map, IfOk, IsTrue};
     ghost use Rattle.logos_type_params.specs.Views.{param_value, Leads, AreMarked};
 
-    /// Finds the chains of `types`, in time linear in the sizes of all types.
+    /// Finds the chains of `types`, in time linear in the total size of the types.
     pub(crate) fn new(
         alloc: Global,
         types: &'p GivenTypes<'s>,
@@ -105,7 +106,7 @@ impl<'p, 's> Chains<'p, 's> {
 }
 
 /// Returns whether a chain of types that name one another leads from the parameter `text` back to
-/// this parameter. This takes time linear in the sizes of all types.
+/// this parameter. This takes time linear in the total size of the types.
 ///
 /// # Errors
 ///

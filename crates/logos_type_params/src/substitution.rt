@@ -11,18 +11,18 @@ use logos_type_reader::TypeFault;
 use std::alloc::Global;
 use std::collections::HashSet;
 
-/// A type that is given to a declared parameter, with the spans of both.
+/// A type given to a declared parameter, with the spans of the type and of the parameter's name.
 #[derive(Drop)]
 pub struct TypeParam<'s> {
     /// The span of the name to which the type is given.
     pub at: Span,
     pub part: TypePart<'s>,
-    /// The span of the type as it is written.
+    /// The span of the type as written.
     pub span: Span,
 }
 
-/// The types given to the parameters, and the names that are not replaced: the name of each
-/// parameter whose type contains this parameter.
+/// The types given to the parameters, and the names that are not replaced. `held` contains the name
+/// of each parameter from which a chain of types leads back to this parameter.
 #[derive(Clone, Copy)]
 pub struct Replacing<'p, 's> {
     pub types: &'p GivenTypes<'s>,
@@ -37,8 +37,8 @@ enum GivenType<'p, 's> {
     Parts(&'p [TypePart<'s>]),
 }
 
-/// Returns `leaf` with its lifetime set to `'s`, if it is a reference or a lifetime among the angle
-/// arguments of a path that is a type. Any other token is unchanged.
+/// Returns `leaf` with its lifetime set to `'s` if `leaf` is a reference, or a lifetime among the
+/// angle-bracketed arguments of a path that is a type. Returns any other token unchanged.
 pub(crate) fn set_lifetime(leaf: TypeToken<'_>) -> TypeToken<'_>
     ensures { sign_of result ≡ set_sign (sign_of leaf.entry) }
 {
@@ -60,8 +60,8 @@ fn given_by<'p, 's>(part: &'p TypePart<'s>) -> GivenType<'p, 's>
     }
 }
 
-/// Returns the replacement of the name `text` by the type that is given to it, or `Nothing` if it
-/// has no type.
+/// Returns the replacement of the name `text` according to the type given to the name, or `Nothing`
+/// if the name has no type.
 fn given_first<'p, 's>(types: &'p GivenTypes<'s>, text: &str) -> GivenType<'p, 's>
     ensures { given_of result ≡ given_first (map param_value types.now.entries.items) text.now }
 {
@@ -71,8 +71,8 @@ fn given_first<'p, 's>(types: &'p GivenTypes<'s>, text: &str) -> GivenType<'p, '
     }
 }
 
-/// Returns the replacement of the name `text`: `Nothing` if it has no type, or its type contains
-/// the name.
+/// Returns the replacement of the name `text`. Returns `Nothing` if the name has no type or is one
+/// of the names that are not replaced.
 fn find<'p, 's>(params: Replacing<'p, 's>, text: &str) -> GivenType<'p, 's>
     ensures { given_of result ≡ given (params_of params.entry) text.now }
 {
@@ -108,8 +108,8 @@ pub fn type_after<'s>(
     }
 }
 
-/// Returns a copy of `part`, whose parts are never replaced, or `LimitNesting` if it has more than
-/// `levels` nested types.
+/// Returns a copy of `part`, a part that is never replaced. Returns `LimitNesting` if `part` has
+/// more than `levels` nested types.
 fn still_after<'s>(levels: u32, part: &TypePart<'s>) -> Result<TypePart<'s>, TypeFault>
     ensures ok { IfOk result (λ after. (tree_of after ≡ tree_of part.now)
         × (exceeds levels (tree_of part.now) ≡ false)) }
@@ -121,9 +121,10 @@ fn still_after<'s>(levels: u32, part: &TypePart<'s>) -> Result<TypePart<'s>, Typ
     Ok(part.clone()?)
 }
 
-/// Returns the replacement of the name `text`, or the name itself if it has none. The names in the
-/// parts of a type that replaces it are replaced in turn, but a single name is not. Returns
-/// `LimitNesting` if the result has more than `levels` nested types.
+/// Returns the replacement of the name `text`, or the name itself if there is no replacement. If
+/// the replacement is a type with parts, the names in the parts are replaced in turn. If the
+/// replacement is another name, that name is not replaced. Returns `LimitNesting` if the result has
+/// more than `levels` nested types.
 #[cycle(after)]
 fn name_after<'s>(
     alloc: Global,
@@ -148,8 +149,8 @@ fn name_after<'s>(
     }
 }
 
-/// Returns the type of `parts`, with the parameters in them replaced, or `LimitNesting` if it has
-/// more than `levels` nested types.
+/// Returns the type that consists of `parts`, with the parameters in the parts replaced. Returns
+/// `LimitNesting` if the result has more than `levels` nested types.
 #[cycle(after)]
 fn whole_after<'s>(
     alloc: Global,
@@ -169,8 +170,8 @@ fn whole_after<'s>(
     Ok(TypePart::Whole(after))
 }
 
-/// Returns `parts`, with the parameters in each of them replaced, or `LimitNesting` if one of them
-/// then has more than `levels` nested types.
+/// Returns `parts` with the parameters in each part replaced. Returns `LimitNesting` if a resulting
+/// part has more than `levels` nested types.
 #[cycle(after)]
 fn parts_after<'s>(
     alloc: Global,
@@ -190,8 +191,8 @@ fn parts_after<'s>(
     Ok(after)
 }
 
-/// A type has at most one replacement. If its replacement exceeds the limit, each replacement
-/// without that limit is deeper than the limit.
+/// A type has at most one replacement, regardless of the limit. If the replacement exceeds one
+/// limit but not another, the first limit is less than the second.
 pub fn at_most_one_after()
     ensures one { (params : Params) (levels others : ℕ) (part after other : Tree) →
         After params levels part after → After params others part other → after ≡ other }

@@ -39,8 +39,8 @@ fn report_syntax(errors: &mut Errors, at: Span) -> Result<(), Memory>
     errors.err(FaultCode::TypeSyntax, "not a type", at)
 }
 
-/// Reports `fault`, the reason that a run is not a type, at the span `at`. Returns `Memory` without
-/// a report if memory ran out.
+/// Reports `fault`, the reason why `run` is not a type, at the span `at`. If `fault` is `Memory`,
+/// returns `Memory` without a report.
 fn report_no_type(
     fault: TypeFault,
     run: Tokens<'_, '_>,
@@ -59,8 +59,8 @@ fn report_no_type(
     }
 }
 
-/// Returns `type_expr` if `rest`, the tokens after it, is empty. Otherwise reports at the span `at`
-/// that the run is not a type, and returns `None`.
+/// Returns `type_expr` if `rest`, the run of the tokens after the type, is empty. Otherwise reports
+/// at the span `at` that `run` is not a type, and returns `None`.
 fn whole_type<'s>(
     type_expr: TypeExpr<'s>,
     rest: Tokens<'_, 's>,
@@ -80,8 +80,8 @@ fn whole_type<'s>(
     Ok(None)
 }
 
-/// Reads the whole run as a type. If it is not a type, reports `TypeSyntax` at the span `at`, or
-/// `LimitTypeNesting` if too many types are nested in it, and returns `None`.
+/// Reads the whole run as a type. If the run is not a type, reports `TypeSyntax` at the span `at`
+/// and returns `None`. If too many types are nested in the run, reports `LimitTypeNesting` instead.
 ///
 /// # Errors
 ///
@@ -105,7 +105,8 @@ pub fn read_value<'s>(
     }
 }
 
-/// Reports the lifetime at `span` if `is_declared` is `true`: if another one is already declared.
+/// Reports the lifetime at `span` if `is_declared` is `true`, which means that another lifetime is
+/// already declared.
 fn report_second_lifetime(is_declared: bool, span: Span, errors: &mut Errors) -> Result<(), Memory>
     ensures ok { OnOk result (errors.new ≡ errors.old ++
         (if is_declared then many_lifetimes span ∷ [] else [])) }
@@ -121,7 +122,7 @@ fn report_second_lifetime(is_declared: bool, span: Span, errors: &mut Errors) ->
     )
 }
 
-/// Returns the span of the type given to the name `text`, or `None` if it has none.
+/// Returns the span of the type given to the name `text`, or `None` if the name has no type.
 fn former<'s>(types: &GivenTypes<'s>, text: &str) -> Option<Span>
     ensures { result ≡ former (map given_of types.now.entries.items) text.now }
 {
@@ -131,8 +132,8 @@ fn former<'s>(types: &GivenTypes<'s>, text: &str) -> Option<Span>
     }
 }
 
-/// Reports that `name` already has a type, and `former`, the span of that type. After an error the
-/// faults are unchanged.
+/// Reports that `name` already has a type, and reports the span `former` of this type. After an
+/// error the faults are unchanged.
 fn report_twice(name: Ident<'_>, former: Span, errors: &mut Errors) -> Result<(), Memory>
     ensures ok { OnOk result (errors.new
         ≡ errors.old ++ given_faults (Some former) (named_of name.entry)) }
@@ -150,8 +151,8 @@ fn report_twice(name: Ident<'_>, former: Span, errors: &mut Errors) -> Result<()
     errors.append(found)
 }
 
-/// Reports a second type for `name` if it already has one, whose span is `former`. After an error
-/// the faults are unchanged.
+/// Reports a second type for `name` if the name already has a type. `former` is the span of the
+/// first type, or `None` if there is none. After an error the faults are unchanged.
 fn report_given(name: Ident<'_>, former: Option<Span>, errors: &mut Errors) -> Result<(), Memory>
     ensures ok { OnOk result (errors.new
         ≡ errors.old ++ given_faults former (named_of name.entry)) }
@@ -163,8 +164,8 @@ fn report_given(name: Ident<'_>, former: Option<Span>, errors: &mut Errors) -> R
     }
 }
 
-/// Assigns the type `param` to `name`, a declared name. If the name already has a type, reports the
-/// second one and replaces the first one. After an error everything is unchanged.
+/// Assigns the type `param` to the declared name `name`. If the name already has a type, reports
+/// the second type and replaces the first type. After an error the types and faults are unchanged.
 fn emit<'s>(
     types: &mut GivenTypes<'s>,
     name: Ident<'s>,
@@ -185,8 +186,8 @@ fn emit<'s>(
     Ok(())
 }
 
-/// Adds `name`, a declared name, to `front`. If it was not in `front`, and a chain of types leads
-/// from it back to it, reports that.
+/// Adds the declared name `name` to `front`. If the name was not in `front` before, and a chain of
+/// types leads from the name back to this name, reports the name.
 fn check_name<'s>(
     front: &mut HashSet<&'s str>,
     chains: &Chains<'_, 's>,
@@ -213,7 +214,7 @@ fn check_name<'s>(
 }
 
 impl<'s> TypeParams<'s> {
-    /// Returns a value without parameters, which takes its memory from `alloc`.
+    /// Returns an empty `TypeParams` that takes its memory from `alloc`.
     pub fn new(alloc: Global) -> TypeParams<'s>
         ensures { value_of result ≡ record { names = []; types = []; lifetime = false } }
     {
@@ -225,12 +226,12 @@ impl<'s> TypeParams<'s> {
         }
     }
 
-    /// Records that a lifetime parameter is declared. If one was already declared, reports
-    /// `ManyLifetimes` at `span`.
+    /// Records that a lifetime parameter is declared. If a lifetime parameter was already declared,
+    /// reports `ManyLifetimes` at `span`.
     ///
     /// # Errors
     ///
-    /// Returns `Memory` if memory runs out. Everything is then unchanged.
+    /// Returns `Memory` if memory runs out. The parameters and faults are then unchanged.
     pub fn explicit_lifetime(&mut self, span: Span, errors: &mut Errors) -> Result<(), Memory>
         ensures value { OnOk result (value_of self.new ≡ record {
           names = (value_of self.old).names;
@@ -247,7 +248,7 @@ impl<'s> TypeParams<'s> {
         Ok(())
     }
 
-    /// Declares the type parameter `name`, after the others.
+    /// Declares the type parameter `name`, after the parameters already declared.
     ///
     /// # Errors
     ///
@@ -264,14 +265,14 @@ impl<'s> TypeParams<'s> {
         Ok(())
     }
 
-    /// Assigns the type that `value` spells to the parameter `name`. If `value` is not a type,
-    /// reports `TypeSyntax` or `LimitTypeNesting`; if `name` is not declared, reports
-    /// `NotTypeParameter`. In both cases no type is assigned. Reports a second type as `TypeTwice`,
-    /// with the span of the first one, and assigns the second one.
+    /// Reads `value` as a type and assigns the type to the parameter `name`. Reports `TypeSyntax`
+    /// or `LimitTypeNesting` if `value` is not a type, and `NotTypeParameter` if `name` is not
+    /// declared. In both cases no type is assigned. If the parameter already has a type, reports
+    /// `TypeTwice` with the span of the first type, and assigns the second type.
     ///
     /// # Errors
     ///
-    /// Returns `Memory` if memory runs out. Everything is then unchanged.
+    /// Returns `Memory` if memory runs out. The parameters and faults are then unchanged.
     pub fn set(
         &mut self,
         name: Ident<'s>,
@@ -310,9 +311,9 @@ impl<'s> TypeParams<'s> {
         )
     }
 
-    /// Reports each parameter from which a chain of types leads back to this parameter, as
-    /// `TypeHoldsItself`, in order of declaration. A name that is declared twice is reported only
-    /// once. This takes time linear in the sizes of all types.
+    /// Reports `TypeHoldsItself` for each parameter from which a chain of types leads back to this
+    /// parameter, in order of declaration. A name that is declared twice is reported only once.
+    /// This takes time linear in the total size of the types.
     ///
     /// # Errors
     ///

@@ -3,8 +3,8 @@
 ghost use Rattle.std.specs.Prelude.{◌≡◌, ◌<◌, ◌≤◌, ◌⊎◌, ℕ, Bool, true};
 ghost use Rattle.logos_type_reader.specs.Views.{TokenList, IsRestOf, count_of, Tree, depth, Fault, too_deep, IsType, NoType, Ending, Written, may_follow, FaultStage, IsAt, SameSign, IsTypeExpr, NoTypeExpr};
 
-/// A run begins with at most one type, with one rest after it. It has at most one fault, and none
-/// if it begins with a type.
+/// A run begins with at most one type, and has one rest after that type. A run has at most one
+/// fault, and none if it begins with a type.
 pub fn one_outcome()
     ensures one_type { (run rest other : TokenList) (tree different : Tree) →
         IsTypeExpr run tree rest → IsTypeExpr run different other → (tree ≡ different)
@@ -34,7 +34,7 @@ pub fn levels_only_limit()
         × (levels < others) }
 {}
 
-/// A type exceeds the limit exactly if its depth is greater than the limit.
+/// A type exceeds a limit if and only if its depth is greater than the limit.
 pub fn limit_is_depth()
     ensures within { (levels : ℕ) (plus : Bool) (run rest : TokenList) (tree : Tree) →
         IsType levels plus run tree rest → depth tree ≤ levels }
@@ -44,7 +44,7 @@ pub fn limit_is_depth()
         IsType levels plus run tree rest → others < depth tree → NoType others plus run too_deep }
 {}
 
-/// The tokens after a type are its run without the first tokens, of which there is at least one.
+/// The tokens after a type are the run without one or more tokens at its start.
 pub fn type_is_front()
     ensures rest { (run rest : TokenList) (tree : Tree) → IsTypeExpr run tree rest →
         IsRestOf run rest }
@@ -52,23 +52,24 @@ pub fn type_is_front()
         count_of rest < count_of run }
 {}
 
-/// If a run is a written type and a rest that does not lengthen it, the written type is read.
+/// If a run consists of a written type and a rest that does not extend the type, reading the run
+/// yields the type.
 pub fn reads_written()
     ensures { (levels : ℕ) (plus : Bool) (run rest : TokenList) (tree : Tree) (ending : Ending) →
         Written levels plus run tree rest ending → may_follow ending rest ≡ true →
         IsType levels plus run tree rest }
 {}
 
-/// If a type is read, its run is that type as written and a rest that does not lengthen it.
+/// If reading a run yields a type, the run consists of the written type and a rest that does not
+/// extend the type.
 pub fn read_is_written()
     ensures { (levels : ℕ) (plus : Bool) (run rest : TokenList) (tree : Tree) →
         IsType levels plus run tree rest → (ending : Ending)
         × Written levels plus run tree rest ending × (may_follow ending rest ≡ true) }
 {}
 
-/// A fault has a spot in its run, unless types are nested too deeply. Each run with the same tokens
-/// before this spot and the same sign at it also has the fault, so none of them begins with a
-/// written type.
+/// Each fault has a spot in its run, unless the fault is that types are nested too deeply. No run
+/// with the same tokens before this spot and the same sign at the spot begins with a written type.
 pub fn fault_stage()
     ensures stage { (levels : ℕ) (plus : Bool) (run : TokenList) (fault : Fault) →
         NoType levels plus run fault → (fault ≡ too_deep) ⊎ FaultStage levels plus run fault }

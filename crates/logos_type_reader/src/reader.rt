@@ -1,5 +1,5 @@
-//! Reads types. `logos_enum` calls it at each field, and `logos_type_params` at each type in an
-//! attribute.
+//! Reads the type at the start of a run of tokens. `logos_enum` calls `read_type` for each field,
+//! and `logos_type_params` calls it for each type in an attribute.
 
 ghost use Rattle.std.specs.Prelude.{◌≡◌, ◌<◌, ◌∷◌, ◌++◌, [], ℕ, map, IfOk, IfErr, OnOk, None, Ok, false};
 ghost use Rattle.logos_type_reader.specs.Views.{IsRestOf, count_of, run_span, tokens_of, inside_of, tree_of, sign_of, sign, opening, closing, still, trees, also, none, still_run, still_token, type_tree, Spot as SpotOfRuns, outer, name_of, needs, keeps_type, nests, IsType, NoType, IsMove, after_type, next_of, spot_of, outside_of, IfFault, IsStep, YieldsMove, YieldsParts, IsTypeExpr, NoTypeExpr, Memory, fault_of};
@@ -13,9 +13,10 @@ use std::alloc::{AllocError, AllocFailed, Global};
 /// The reason why a run does not begin with a type.
 #[derive(Clone, Copy)]
 pub enum TypeFault {
-    /// An unsupported type, at this span.
+    /// An unsupported type at the span `span`.
     Unsupported { span: Span },
-    /// The first token that does not fit, at this span, which is `0..0` at the end of the tokens.
+    /// The first token that does not fit, at the span `span`. The span is `0..0` if no tokens are
+    /// left.
     Mismatch { span: Span },
     /// More nested types than the limit allows.
     LimitNesting,
@@ -50,7 +51,7 @@ impl From<StepFault> for TypeFault {
     }
 }
 
-/// The greatest number of types that can be nested. The outermost one counts.
+/// The greatest number of types that can be nested, including the outermost type.
 pub const TYPE_NESTING: u32 = 128;
 
 /// Adds the token `leaf` to `parts` as one part.
@@ -62,8 +63,8 @@ fn add_leaf<'s>(leaf: TypeToken<'s>, parts: &mut Vec<TypePart<'s>>) -> Result<()
     Ok(())
 }
 
-/// Adds the tokens of a run to `parts` without reading types in them. A group adds its delimiters
-/// and the tokens inside it.
+/// Adds the tokens of `run` to `parts` without reading types in the run. For a group, adds its
+/// delimiters and the tokens between the delimiters.
 #[cycle(keeping)]
 fn keep_tokens<'s>(run: Tokens<'_, 's>, parts: &mut Vec<TypePart<'s>>) -> Result<(), AllocError>
     ensures { OnOk result (map tree_of parts.new.items ≡
@@ -77,7 +78,8 @@ fn keep_tokens<'s>(run: Tokens<'_, 's>, parts: &mut Vec<TypePart<'s>>) -> Result
     Ok(())
 }
 
-/// Adds a token, or the tokens of a group, to `parts` without reading types in it.
+/// Adds the token `tree` to `parts` without reading types. For a group, adds its delimiters and the
+/// tokens between the delimiters.
 #[cycle(keeping)]
 fn keep_token<'s>(tree: TokenTree<'_, 's>, parts: &mut Vec<TypePart<'s>>) -> Result<(), AllocError>
     ensures { OnOk result (map tree_of parts.new.items ≡
@@ -95,8 +97,8 @@ fn keep_token<'s>(tree: TokenTree<'_, 's>, parts: &mut Vec<TypePart<'s>>) -> Res
     }
 }
 
-/// Adds the delimiters of a group and the tokens between them to `parts` without reading types in
-/// them.
+/// Adds the delimiters of `group` and the tokens between the delimiters to `parts` without reading
+/// types in the group.
 #[cycle(keeping)]
 fn keep_group<'s>(group: Group<'_, 's>, parts: &mut Vec<TypePart<'s>>) -> Result<(), AllocError>
     ensures { OnOk result (map tree_of parts.new.items ≡ map tree_of parts.old.items ++
@@ -119,8 +121,8 @@ fn after_all<'t, 's>(spot: Spot<'t, 's>) -> Tokens<'t, 's>
     }
 }
 
-/// Returns the spot after a type or a path at `spot`: its stage is `stage`, and its tokens are
-/// `run`, the tokens after the type or path.
+/// Returns the spot after a type or a path that begins at `spot`. `stage` is the stage of the
+/// returned spot, and `run` consists of the tokens after the type or path.
 fn after_type<'t, 's>(spot: Spot<'t, 's>, stage: Stage, run: Tokens<'t, 's>) -> Spot<'t, 's>
     ensures { spot_of result ≡ after_type (spot_of spot.entry) stage (tokens_of run.entry) }
 {
@@ -140,8 +142,8 @@ fn begun_parts<'s>(alloc: Global, part: TypePart<'s>) -> Result<Vec<TypePart<'s>
     Ok(parts)
 }
 
-/// Adds `part` to `parts`. Returns `bars`, which is whether the part makes the type unsupported,
-/// and the spot `next`.
+/// Adds `part` to `parts`. Returns `bars` and the spot `next`. `bars` is `true` if the part makes
+/// the type unsupported.
 fn move_past<'t, 's>(
     bars: bool,
     part: TypePart<'s>,
@@ -156,8 +158,9 @@ fn move_past<'t, 's>(
     Ok(Some((bars, next)))
 }
 
-/// Adds the tokens of `run` to `parts`, without reading types in them, as one part that is never
-/// replaced. Returns `false`, since the part makes no type unsupported, and the spot `next`.
+/// Adds the tokens of `run` to `parts` as one part that is never replaced, without reading types in
+/// the run. Returns `false`, because the part does not make the type unsupported, and the spot
+/// `next`.
 fn move_past_run<'t, 's>(
     alloc: Global,
     run: Tokens<'t, 's>,
@@ -176,8 +179,8 @@ fn move_past_run<'t, 's>(
     }
 }
 
-/// Adds a part that is never replaced and consists of `part` to `parts`. Returns `false`, since the
-/// part makes no type unsupported, and the spot `next`.
+/// Adds `part` to `parts` as a part that is never replaced. Returns `false`, because the part does
+/// not make the type unsupported, and the spot `next`.
 fn move_past_still<'t, 's>(
     alloc: Global,
     part: TypePart<'s>,
@@ -195,8 +198,9 @@ fn move_past_still<'t, 's>(
     }
 }
 
-/// Reads the type at `spot` and adds it to `parts`. Returns `false`, since the type is supported,
-/// and the spot after it at `stage`. `levels` and `plus` are as for `type_at`.
+/// Reads the type at `spot` and adds the type to `parts`. Returns `false`, because the type is
+/// supported, and the spot after the type, with the stage `stage`. `levels` and `plus` have the
+/// same meaning as in `type_at`.
 #[cycle(types)]
 fn move_past_type<'t, 's>(
     alloc: Global,
@@ -216,8 +220,9 @@ fn move_past_type<'t, 's>(
     }
 }
 
-/// Reads the type at `spot` and adds it to `parts` as a part that is never replaced. Returns
-/// `false`, since the type is supported, and the spot after it at `stage`.
+/// Reads the type at `spot` and adds the type to `parts` as a part that is never replaced. Returns
+/// `false`, because the type is supported, and the spot after the type, with the stage `stage`.
+/// `levels` has the same meaning as in `type_at`.
 #[cycle(types)]
 fn move_past_still_type<'t, 's>(
     alloc: Global,
@@ -236,9 +241,9 @@ fn move_past_still_type<'t, 's>(
     }
 }
 
-/// Adds the first token of a path or of bounds, and then their other parts, to `parts`. `opening`
-/// is the first token with the spot after it. Returns whether a part makes the type unsupported,
-/// and the spot after the parts at `stage`.
+/// Adds the parts of a path or of bounds to `parts`. `opening` consists of the first token and the
+/// spot after this token. Returns whether a part makes the type unsupported, and the spot after the
+/// parts, with the stage `stage`.
 #[cycle(types)]
 fn move_past_nest<'t, 's>(
     alloc: Global,
@@ -260,8 +265,9 @@ fn move_past_nest<'t, 's>(
     }
 }
 
-/// Adds the parts of `step`, the next step at a spot, to `parts`. Returns whether one of them makes
-/// the type unsupported, and the spot after them. Returns `None` if the step ends the construct.
+/// Adds the parts of `step`, the next step at `spot`, to `parts`. Returns whether one of these
+/// parts makes the type unsupported, and the spot after the parts. Returns `None` if the step ends
+/// the construct.
 #[cycle(types)]
 fn make_step<'t, 's>(
     alloc: Global,
@@ -287,8 +293,9 @@ fn make_step<'t, 's>(
     }
 }
 
-/// Adds the parts of the next step at a spot to `parts`. Returns whether one of them makes the type
-/// unsupported, and the spot after them. Returns `None` if the construct ends at the spot.
+/// Adds the parts of the next step at `spot` to `parts`. Returns whether one of these parts makes
+/// the type unsupported, and the spot after the parts. Returns `None` if the construct ends at
+/// `spot`.
 #[cycle(types)]
 fn move_on<'t, 's>(
     alloc: Global,
@@ -305,8 +312,8 @@ fn move_on<'t, 's>(
     }
 }
 
-/// Adds the parts from the spot `from` to the end of the construct that was begun there to `parts`.
-/// Returns whether one of them makes the type unsupported, and the tokens after them.
+/// Adds the parts of a construct from the spot `from` on to `parts`. Returns whether one of these
+/// parts makes the type unsupported, and the tokens after the construct.
 #[cycle(types)]
 fn parts_at<'t, 's>(
     alloc: Global,
@@ -326,7 +333,7 @@ fn parts_at<'t, 's>(
     Ok((barred, after_all(spot)))
 }
 
-/// Returns the span of the tokens of `tokens` before `rest`.
+/// Returns the span of the tokens in `tokens` that precede `rest`.
 fn span_before<'t, 's>(tokens: Tokens<'t, 's>, rest: Tokens<'t, 's>) -> Span
     requires { IsRestOf (tokens_of tokens) (tokens_of rest) }
     ensures { (split : IsRestOf (tokens_of tokens.entry) (tokens_of rest.entry)) →
@@ -336,8 +343,8 @@ fn span_before<'t, 's>(tokens: Tokens<'t, 's>, rest: Tokens<'t, 's>) -> Span
     front.span()
 }
 
-/// Returns the type at the start of the tokens, which is more than a name, and the tokens after it.
-/// `levels` and `plus` are as for `type_at`.
+/// Reads the type at the start of `tokens`, where the type is more than a name. Returns the type
+/// and the tokens after it. `levels` and `plus` have the same meaning as in `type_at`.
 #[cycle(types)]
 fn formed_at<'t, 's>(
     alloc: Global,
@@ -371,8 +378,9 @@ fn formed_at<'t, 's>(
     Ok((TypePart::Whole(parts), rest))
 }
 
-/// Returns the type at the start of the tokens, and the tokens after it. At most `levels` types can
-/// be nested, where the outermost type counts. `+` joins bounds only if `plus` is `true`.
+/// Reads the type at the start of `tokens`. Returns the type and the tokens after it. At most
+/// `levels` types can be nested, including the outermost type. `+` joins bounds only if `plus` is
+/// `true`.
 #[cycle(types)]
 pub(crate) fn type_at<'t, 's>(
     alloc: Global,
@@ -393,13 +401,17 @@ pub(crate) fn type_at<'t, 's>(
     Ok((TypePart::Name(name), rest))
 }
 
-/// Returns the type at the start of the tokens, and the tokens after it.
+/// Reads the type at the start of `tokens`. Returns the type and the tokens after it.
 ///
 /// # Errors
 ///
-/// Returns `Unsupported` with the span of an unsupported type, `Mismatch` with the span of the
-/// first token that does not fit, or `0..0` at the end of the tokens, `LimitNesting` if more than
-/// 128 types are nested, and `Memory` if memory runs out.
+/// Returns:
+///
+/// - `Unsupported` with the span of an unsupported type.
+/// - `Mismatch` with the span of the first token that does not fit, or with `0..0` if no tokens are
+///   left.
+/// - `LimitNesting` if more than 128 types are nested.
+/// - `Memory` if memory runs out.
 pub fn read_type<'t, 's>(
     alloc: Global,
     tokens: Tokens<'t, 's>,

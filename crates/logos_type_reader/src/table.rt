@@ -1,5 +1,5 @@
-//! The grammar of types: the next step at each spot inside a type. The reader of types calls
-//! `next_at` at each spot.
+//! The grammar of types, which determines the next step at each spot inside a type. The reader of
+//! types calls `next_at` at each spot.
 
 ghost use Rattle.std.specs.Prelude.{IsTrue};
 ghost use Rattle.logos_type_reader.specs.Views.{tokens_of, next_at, outside_of, spot_of, IsStep, IsAction, is_in_bounds};
@@ -74,8 +74,8 @@ fn action_at(at: &Spot<'_, '_>) -> Next
     }
 }
 
-/// Returns the action at a spot in a bound, in `for<..>` or in the type of a function, or the fault
-/// if no action fits.
+/// Returns the action at a spot in a bound, in `for<..>` or in a function type, or the fault if no
+/// action fits.
 #[tactic(auto, unfolding(crate::specs::Table::next_at))]
 fn bound_action_at(at: &Spot<'_, '_>) -> Next
     requires { IsTrue (is_in_bounds at.now.stage) }
@@ -107,8 +107,9 @@ fn bound_action_at(at: &Spot<'_, '_>) -> Next
     }
 }
 
-/// Returns the next step at the spot inside a type with this stage, these tokens and the tokens
-/// `outside` after the open group. Returns the fault if no step fits.
+/// Returns the next step at a spot inside a type, or the fault if no step fits. The spot has the
+/// stage `stage`, `run` consists of the tokens after the spot, and `outside` contains the tokens
+/// after the open group if a group is open.
 pub(crate) fn next_at<'t, 's>(
     stage: Stage,
     run: Tokens<'t, 's>,

@@ -8,13 +8,13 @@ use logos_enum::{Attribute, ItemEnum, Variant, split_attribute};
 use logos_token::token::{TokenTree, Tokens};
 use logos_token::util::{after_path_mark, after_word};
 
-/// The site of an attribute: the enum, or a variant of it.
+/// The site of an attribute: an enum, or one of its variants.
 #[derive(Clone, Copy)]
 pub(crate) enum AttributeSite {
     OnEnum,
-    /// On a variant without helper attributes.
+    /// A variant without helper attributes.
     OnVariant,
-    /// On a variant with a helper attribute.
+    /// A variant with a helper attribute.
     OnLeaf,
 }
 
@@ -28,8 +28,8 @@ fn begins_with_colon(tokens: Tokens<'_, '_>) -> bool
     }
 }
 
-/// Returns the name of an attribute, from the run between its brackets, or `None` if its path is
-/// not one identifier.
+/// Returns the name of an attribute, or `None` if its path is not a single identifier. `tokens` are
+/// the tokens between the brackets of the attribute.
 fn name_in<'s>(tokens: Tokens<'_, 's>) -> Option<&'s str>
     ensures { MatchOption result (name_in (tokens_of tokens.entry) ≡ None)
         (λ name. name_in (tokens_of tokens.entry) ≡ Some name.now) }
@@ -40,8 +40,8 @@ fn name_in<'s>(tokens: Tokens<'_, 's>) -> Option<&'s str>
     }
 }
 
-/// Returns the name of an attribute, or `None` if it has no brackets or its path is not one
-/// identifier.
+/// Returns the name of an attribute, or `None` if the attribute has no brackets or its path is not
+/// a single identifier.
 pub(crate) fn name_of<'s>(attribute: Attribute<'_, 's>) -> Option<&'s str>
     ensures { MatchOption result (name_of (attribute_value attribute.entry) ≡ None)
         (λ name. name_of (attribute_value attribute.entry) ≡ Some name.now) }
@@ -116,7 +116,7 @@ pub(crate) fn has_helper(run: Tokens<'_, '_>) -> bool
     false
 }
 
-/// Returns whether one of these variants has a helper attribute.
+/// Returns whether one of `variants` has a helper attribute.
 fn variants_have(variants: &[Variant<'_, '_>]) -> bool
     ensures { IsTrue result ↔ VariantsHave (map variant_value variants.now) }
 {

@@ -1,4 +1,4 @@
-//! Makes the warnings for mistakes in enums. Used by `logos_causes` and `logos_file_warnings`.
+//! Creates the warnings for mistakes in enums. Used by `logos_causes` and `logos_file_warnings`.
 
 ghost use Rattle.std.specs.Prelude.{◌≡◌, ◌≢◌, ◌++◌, [], IfOk, OnOk, codes, map, string_bytes};
 ghost use Rattle.logos_warnings.specs.Views.{AddsAbout, AreAbout, AreOfEnum, AreOfText, AreOfTokens, IsAbout, enum_value, mistake_text, mistake_value, span_of, tokens_of};
@@ -13,11 +13,13 @@ use logos_token::error::Memory;
 use logos_token::token::{Span, TokenError, Tokens, tokenize};
 use std::alloc::{AllocError, Global};
 
-/// Returns the warnings for the enum that `text` spells, or no warnings if `text` does not spell an
-/// enum. First come the warnings for names of its own attributes and of its variants' attributes,
-/// in source order, then the warning that it has no pattern or does not derive `Logos`, and last
-/// the warnings for attributes that its lexer ignores. `derives` is whether the enum derives
-/// `Logos`. A `cfg` is not a mistake in an enum from the derive macro.
+/// Returns the warnings for an enum with the text `text`, or no warnings if `text` does not spell
+/// an enum.
+///
+/// The warnings for the names of attributes of the enum and of its variants come first, in source
+/// order. The warning that the enum has no pattern or does not derive `Logos` follows, and the
+/// warnings for attributes that the lexer ignores come last. `derives` is `true` if the enum
+/// derives `Logos`. A `cfg` is not a mistake in an enum from the derive macro.
 ///
 /// # Errors
 ///
@@ -49,8 +51,8 @@ fn warnings_of_unread(alloc: Global, error: TokenError) -> Result<Vec<Warning>, 
     }
 }
 
-/// Returns the warnings of `enum_warnings` for an enum with these tokens, or no warnings if the
-/// tokens do not spell an enum. `derives` is whether the enum derives `Logos`.
+/// Returns the warnings of `enum_warnings` for an enum with the tokens `tokens`, or no warnings if
+/// the tokens do not spell an enum. `derives` is `true` if the enum derives `Logos`.
 ///
 /// # Errors
 ///
@@ -84,8 +86,8 @@ fn warnings_of_misread(alloc: Global, error: ReadError) -> Result<Vec<Warning>, 
     }
 }
 
-/// Returns the warnings of `enum_warnings` for an enum that was read. `derives` is whether the enum
-/// derives `Logos`.
+/// Returns the warnings of `enum_warnings` for an enum that was read. `derives` is `true` if the
+/// enum derives `Logos`.
 ///
 /// # Errors
 ///
@@ -108,7 +110,8 @@ pub fn item_warnings(
     Ok(warnings)
 }
 
-/// Returns the warnings for those mistakes in the enum `name` that are warnings for `origin`.
+/// Returns the warnings for `mistakes` in the enum `name`. A mistake that is not a warning for
+/// `origin` is left out.
 fn warnings_about(
     alloc: Global,
     name: &str,
@@ -125,7 +128,7 @@ fn warnings_about(
     Ok(warnings)
 }
 
-/// Appends to `warnings` the warning for a mistake in the enum `name`, if the mistake is a warning
+/// Appends the warning for a mistake in the enum `name` to `warnings`, if the mistake is a warning
 /// for `origin`.
 fn add_about(
     name: &str,
@@ -184,7 +187,7 @@ fn no_pattern_text(alloc: Global, name: &str) -> Result<String, AllocError>
     Ok(message)
 }
 
-/// Returns the message about the enum `name`, which has attributes of a lexer and does not derive
+/// Returns the message about the enum `name`, which has attributes of a lexer but does not derive
 /// `Logos`.
 fn no_derive_text(alloc: Global, name: &str) -> Result<String, AllocError>
     ensures { IfOk result (λ message. string_bytes message ≡ codes "`" ++ (name.now

@@ -1,4 +1,4 @@
-//! Warns about entries of `derive` that name the derive macro but are ignored, since their enum is
+//! Warns about `derive` entries that name the derive macro but are ignored because their enum is
 //! not found or their path is unknown. Used by `logos_file_warnings`.
 
 ghost use Rattle.std.specs.Prelude.{All, IfOk};
@@ -16,9 +16,9 @@ const MESSAGE: &str = "this derive of `Logos` is passed over";
 const HELP: &str =
     "write `derive(Logos)` or `derive(logos::Logos)` on an enum outside of functions and macros";
 
-/// Returns a warning for each list of `derive` among the tokens of a file that names the derive
-/// macro, with any path, and is outside of the spans `found`. These are the spans of the enums that
-/// were found to derive the macro, in order.
+/// Returns a warning for each `derive` list of a file that names the derive macro, with any path,
+/// and begins outside of the spans in `found`. `tokens` are the tokens of the file, and `found`
+/// contains the spans of the enums that were found to derive the macro, in order.
 ///
 /// # Errors
 ///
@@ -35,8 +35,8 @@ pub fn passed_over(
     Ok(warnings_of(alloc, &derives, found)?)
 }
 
-/// Returns a warning for each span in `derives` that begins outside of the spans `found`. Both are
-/// in order.
+/// Returns a warning for each span in `derives` that begins outside of the spans in `found`. The
+/// spans of both lists are in order.
 fn warnings_of(alloc: Global, derives: &[Span], found: &[Span]) -> Result<Vec<Warning>, AllocError>
     ensures { IfOk result (λ warnings. All IsPassedOver warnings.items) }
 {
@@ -51,8 +51,7 @@ fn warnings_of(alloc: Global, derives: &[Span], found: &[Span]) -> Result<Vec<Wa
     Ok(warnings)
 }
 
-/// Returns the spans in `found` from the first that ends after `offset` on, or no spans if there is
-/// none.
+/// Returns the spans in `found` without the leading spans that end at or before `offset`.
 fn from_offset(found: &[Span], offset: usize) -> &[Span] {
     let mut left = found;
     while let [first, rest @ ..] = left {
@@ -64,8 +63,8 @@ fn from_offset(found: &[Span], offset: usize) -> &[Span] {
     left
 }
 
-/// Returns whether the first span in `found` begins at or before `offset`. Returns `false` if there
-/// are no spans.
+/// Returns whether the first span in `found` begins at or before `offset`. Returns `false` if
+/// `found` is empty.
 fn begins_before(found: &[Span], offset: usize) -> bool {
     match found.first() {
         Some(span) => span.from <= offset,
@@ -73,8 +72,8 @@ fn begins_before(found: &[Span], offset: usize) -> bool {
     }
 }
 
-/// Appends to `found` the spans of all lists of `derive` that contain the derive macro, in a run
-/// and in its groups.
+/// Searches a run and its groups for `derive` lists that contain the derive macro, and appends the
+/// spans of these lists to `found`.
 #[cycle(search)]
 fn search_run(run: Tokens<'_, '_>, found: &mut Vec<Span>) -> Result<(), AllocError> {
     let mut rest = run;
@@ -85,8 +84,8 @@ fn search_run(run: Tokens<'_, '_>, found: &mut Vec<Span>) -> Result<(), AllocErr
     Ok(())
 }
 
-/// Appends to `found` the span of a list of `derive` at the beginning of a run, as `add_derive`
-/// does, or the spans in a group at the beginning of the run.
+/// Appends the span of a `derive` list at the beginning of a run to `found`, as `add_derive` does.
+/// If the run begins with a group, appends the spans in the group.
 #[cycle(search)]
 fn search_first(run: Tokens<'_, '_>, found: &mut Vec<Span>) -> Result<(), AllocError> {
     add_derive(run, found)?;
@@ -96,7 +95,7 @@ fn search_first(run: Tokens<'_, '_>, found: &mut Vec<Span>) -> Result<(), AllocE
     }
 }
 
-/// Appends to `found` the span of the word `derive` and its list, if a run begins with them and the
+/// Appends the span of the word `derive` and its list to `found` if a run begins with them and the
 /// list contains the derive macro.
 fn add_derive(run: Tokens<'_, '_>, found: &mut Vec<Span>) -> Result<(), AllocError> {
     let Some(rest) = after_word("derive", run) else {
@@ -123,7 +122,7 @@ fn is_list(tree: TokenTree<'_, '_>) -> bool {
     }
 }
 
-/// Returns whether an entry of the list with these tokens ends with `Logos`.
+/// Returns whether an entry of a list ends with `Logos`. `list` contains the tokens of the list.
 fn lists_macro(list: Tokens<'_, '_>) -> bool {
     let mut rest = list;
     while !rest.is_empty() {
@@ -135,7 +134,7 @@ fn lists_macro(list: Tokens<'_, '_>) -> bool {
     false
 }
 
-/// Returns whether a run begins with `Logos` and the end of an entry.
+/// Returns whether a run begins with `Logos` at the end of an entry.
 fn ends_with_macro(run: Tokens<'_, '_>) -> bool {
     match after_word("Logos", run) {
         Some(rest) => rest.is_empty() | begins_with(',', rest),

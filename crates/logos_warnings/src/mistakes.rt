@@ -1,4 +1,5 @@
-//! Finds probable mistakes in an enum, which are not faults. Used by `messages` and `origin`.
+//! Finds the probable mistakes in an enum. Such a mistake is not a fault. Used by `messages` and
+//! `origin`.
 
 ghost use Rattle.std.specs.Prelude.{◌≡◌, IfOk, None, OnOk, Some, [], map};
 ghost use Rattle.logos_warnings.specs.Views.{attribute_value, enum_value, variant_value, tokens_of, mistake_value, is_conditional, is_useless, name_of, AreMistakes, AreOfLexer, AttributeAdds, LacksPatterns, RunAdds, VariantAdds, VariantsAdd, NamesAdd, ForgetsDerive};
@@ -11,11 +12,10 @@ use logos_enum::{Attribute, ItemEnum, Variant, split_attribute};
 use logos_token::token::{Span, Tokens};
 use std::alloc::{AllocError, Global};
 
-/// A probable mistake in an enum, which is not a fault. Spans are byte offsets in the text of the
-/// enum.
+/// A probable mistake in an enum, but not a fault. Spans are byte offsets in the text of the enum.
 #[derive(Clone, Copy, Debug)]
 pub enum Mistake<'s> {
-    /// The name of an attribute is near to the name of a helper attribute.
+    /// The name of an attribute is similar to the name of a helper attribute.
     Misspelled {
         name: &'s str,
         intended: Helper,
@@ -37,22 +37,23 @@ pub enum Mistake<'s> {
         /// The span of the attribute.
         span: Span,
     },
-    /// The enum derives `Logos`, and no variant has a helper attribute.
+    /// The enum derives `Logos`, but no variant has a helper attribute.
     NoPattern {
         /// The span of the name of the enum.
         span: Span,
     },
-    /// The enum has helper attributes, and no `derive` entry for `Logos`.
+    /// The enum has helper attributes, but no `derive` entry for `Logos`.
     NoDerive {
         /// The span of the name of the enum.
         span: Span,
     },
 }
 
-/// Returns the mistakes in an enum: first the mistakes in its own attributes and in its variants'
-/// attributes, in source order, and last `NoPattern` or `NoDerive`, if it applies. `derives` is
-/// whether the enum derives `Logos`. Returns no mistakes for an enum that neither derives `Logos`
-/// nor has helper attributes.
+/// Returns the mistakes in an enum. `derives` is `true` if the enum derives `Logos`.
+///
+/// The mistakes in the attributes of the enum and of its variants come first, in source order. The
+/// mistake `NoPattern` or `NoDerive` comes last, if it applies. An enum that neither derives
+/// `Logos` nor has helper attributes has no mistakes.
 ///
 /// # Errors
 ///
@@ -124,7 +125,7 @@ fn forgotten_of<'s>(alloc: Global, item: &ItemEnum<'_, 's>) -> Result<Vec<Mistak
     Ok(warnings)
 }
 
-/// Appends to `warnings` the mistakes in the attributes of an enum and of its variants.
+/// Appends the mistakes in the attributes of an enum and of its variants to `warnings`.
 fn report_names<'s>(
     item: &ItemEnum<'_, 's>,
     warnings: &mut Vec<Mistake<'s>>,
@@ -136,7 +137,7 @@ fn report_names<'s>(
     report_variants(item.variants.as_slice(), warnings)
 }
 
-/// Appends to `warnings` the mistakes in the attributes of variants.
+/// Appends the mistakes in the attributes of variants to `warnings`.
 fn report_variants<'s>(
     variants: &[Variant<'_, 's>],
     warnings: &mut Vec<Mistake<'s>>,
@@ -152,7 +153,7 @@ fn report_variants<'s>(
     Ok(())
 }
 
-/// Appends to `warnings` the mistakes in the attributes of a variant, which are in `run`.
+/// Appends the mistakes in the attributes of a variant to `warnings`. The attributes are in `run`.
 fn report_variant<'s>(
     run: Tokens<'_, 's>,
     warnings: &mut Vec<Mistake<'s>>,
@@ -168,7 +169,7 @@ fn report_variant<'s>(
     Ok(())
 }
 
-/// Appends to `warnings` the mistakes in the attributes of a run at this site.
+/// Appends the mistakes in the attributes of a run at the site `site` to `warnings`.
 fn report_run<'s>(
     site: AttributeSite,
     run: Tokens<'_, 's>,
@@ -185,7 +186,7 @@ fn report_run<'s>(
     Ok(())
 }
 
-/// Returns whether an attribute with this name has no effect at the site.
+/// Returns whether an attribute with the name `name` has no effect at the site `site`.
 fn is_useless(site: AttributeSite, name: &str) -> bool
     ensures { result ≡ is_useless site name.now }
 {
@@ -196,7 +197,8 @@ fn is_useless(site: AttributeSite, name: &str) -> bool
     }
 }
 
-/// Returns whether an attribute with this name at the site puts a pattern under a condition.
+/// Returns whether an attribute with the name `name` at the site `site` makes a pattern
+/// conditional.
 fn is_conditional(site: AttributeSite, name: &str) -> bool
     ensures { result ≡ is_conditional site name.now }
 {
@@ -207,7 +209,7 @@ fn is_conditional(site: AttributeSite, name: &str) -> bool
     }
 }
 
-/// Appends to `warnings` the mistake of an attribute, if it has one.
+/// Appends the mistake in an attribute at the site `site` to `warnings`, if there is one.
 fn report_attribute<'s>(
     site: AttributeSite,
     attribute: Attribute<'_, 's>,
@@ -222,8 +224,8 @@ fn report_attribute<'s>(
     }
 }
 
-/// Appends to `warnings` the mistake of an attribute whose path is not one identifier, if it has
-/// one.
+/// Appends the mistake in an attribute at the site `site` to `warnings`, if there is one. The path
+/// of the attribute is not a single identifier.
 fn report_unnamed<'s>(
     site: AttributeSite,
     attribute: Attribute<'_, 's>,
@@ -240,7 +242,8 @@ fn report_unnamed<'s>(
     Ok(())
 }
 
-/// Appends to `warnings` the mistake of an attribute with this name, if it has one.
+/// Appends the mistake in an attribute with the name `name` at the site `site` to `warnings`, if
+/// there is one.
 fn report_named<'s>(
     site: AttributeSite,
     attribute: Attribute<'_, 's>,

@@ -11,11 +11,11 @@ use crate::mistakes::Mistake;
 pub enum Origin {
     /// A file.
     File,
-    /// The derive macro. The compiler has applied each `cfg` of the enum before the macro runs.
+    /// The derive macro. The compiler applies each `cfg` of the enum before the macro runs.
     Macro,
 }
 
-/// Returns whether a mistake is a warning for an enum from this origin.
+/// Returns whether a mistake is a warning for an enum with the origin `origin`.
 pub(crate) fn is_warning(mistake: Mistake<'_>, origin: Origin) -> bool
     ensures { result ≡ is_warning (mistake_value mistake.entry) origin }
 {

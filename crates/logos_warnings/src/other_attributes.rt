@@ -1,5 +1,5 @@
-//! Warns about attributes of an enum and of its variants that a lexer ignores: `end`, which older
-//! lexers had, and helper attributes under a condition. Used by `messages`.
+//! Warns about attributes of an enum and of its variants that a lexer ignores: `end`, an attribute
+//! of older lexers, and helper attributes under a condition. Used by `messages`.
 
 ghost use Rattle.std.specs.Prelude.{OnOk, map};
 ghost use Rattle.logos_warnings.specs.Views.{AddsEach, IsAboutIgnored, IsAt, IsIgnored, IsIgnoredIn, IsIgnoredOn, attribute_value, enum_value, tokens_of, variant_value};
@@ -20,8 +20,8 @@ const CONDITION: &str = "the attribute in this `cfg_attr` is passed over";
 
 const CONDITION_HELP: &str = "write it alone, or derive the lexer in place";
 
-/// Appends to `warnings` the warnings for the attributes `end` and `cfg_attr` that the lexer of an
-/// enum ignores, in source order.
+/// Appends to `warnings`, in source order, a warning for each attribute `end` or `cfg_attr` that
+/// the lexer of an enum ignores.
 pub(crate) fn add_others(
     item: &ItemEnum<'_, '_>,
     warnings: &mut Vec<Warning>,
@@ -33,7 +33,7 @@ pub(crate) fn add_others(
     add_variants(item.variants.as_slice(), warnings)
 }
 
-/// Appends to `warnings` the warnings for the attributes of these variants.
+/// Appends the warnings for the attributes of `variants` to `warnings`.
 fn add_variants(variants: &[Variant<'_, '_>], warnings: &mut Vec<Warning>) -> Result<(), AllocError>
     ensures { OnOk result (AddsEach (IsIgnoredOn (map variant_value variants.now)) warnings.old.items
         warnings.new.items) }
@@ -44,8 +44,8 @@ fn add_variants(variants: &[Variant<'_, '_>], warnings: &mut Vec<Warning>) -> Re
     Ok(())
 }
 
-/// Appends to `warnings` the warnings for the attributes of a run. `is_variant` is whether they are
-/// on a variant, not on the enum.
+/// Appends the warnings for the attributes of a run to `warnings`. `is_variant` is `true` if the
+/// attributes are on a variant, and `false` if they are on the enum.
 fn add_run(
     run: Tokens<'_, '_>,
     is_variant: bool,
@@ -62,8 +62,8 @@ fn add_run(
     Ok(())
 }
 
-/// Appends to `warnings` the warning for an attribute, if there is one. `is_variant` is whether the
-/// attribute is on a variant.
+/// Appends the warning for an attribute to `warnings`, if there is one. `is_variant` is `true` if
+/// the attribute is on a variant.
 fn add_attribute(
     attribute: Attribute<'_, '_>,
     is_variant: bool,
@@ -84,7 +84,7 @@ fn add_attribute(
     Ok(())
 }
 
-/// Appends to `warnings` a warning with this message, help and span.
+/// Appends a warning with the message `message`, the help `help` and the span `span` to `warnings`.
 fn add(
     message: &str,
     help: &'static str,

@@ -1,5 +1,5 @@
-//! Makes warnings with a message, a span and optionally a help. Used by this crate, `logos_causes`
-//! and `logos_file_warnings`.
+//! Creates warnings with a message, a span and optionally a help. Used by this crate,
+//! `logos_causes` and `logos_file_warnings`.
 
 ghost use Rattle.std.specs.Prelude.{◌≡◌, IfOk, string_bytes};
 

@@ -1,12 +1,13 @@
-//! The rules for attributes: those of Rattle are removed, and a derive loses the names that Rust
-//! does not have. Used by `rules`.
+//! The rules for attributes. The attributes of Rattle are removed, and a derive loses the names
+//! that Rust does not have. Used by `rules`.
 
 use crate::Refusal;
 use crate::rules::Step;
 use crate::source::Source;
 
-/// Erases the attribute whose `#` is the token `n`, and returns the number of its last token.
-/// Appends to `added` the copies that replace a derive of `Clone`. Refuses an unknown attribute.
+/// Erases the attribute whose `#` is token number `n`, and returns the number of the attribute's
+/// last token. Appends to `added` the `impl` that replaces a derive of `Clone`. Refuses an unknown
+/// attribute.
 pub(crate) fn attribute(source: &mut Source<'_>, n: usize, added: &mut String) -> Step {
     let open = if source.at(n + 1) == "!" { n + 2 } else { n + 1 };
     if source.at(open) != "[" {
@@ -24,9 +25,12 @@ pub(crate) fn attribute(source: &mut Source<'_>, n: usize, added: &mut String) -
     Ok(close)
 }
 
-/// Erases names of the derive whose `#` is the token `n`, and the whole derive if no name remains.
-/// `Drop` is removed. `Clone` without `Copy` is removed too, since it can fail in Rattle and Rust
-/// cannot derive it: an `impl` of it is appended to `added`. Refuses an unknown name.
+/// Erases names of the derive whose `#` is token number `n`, and the whole derive if no name
+/// remains.
+///
+/// `Drop` is removed. `Clone` without `Copy` is also removed, because cloning can fail in Rattle
+/// and Rust cannot derive this form of `Clone`. An `impl` is appended to `added` instead. Refuses
+/// an unknown name.
 fn derive(source: &mut Source<'_>, n: usize, added: &mut String) -> Result<(), Refusal> {
     let close = source.closing(n + 3);
     let names = (n + 4..close).step_by(2);
@@ -53,7 +57,7 @@ fn derive(source: &mut Source<'_>, n: usize, added: &mut String) -> Result<(), R
     Ok(())
 }
 
-/// Returns an `impl` of `Clone`, which copies each field, for the struct that begins at the token
+/// Returns an `impl` of `Clone` that copies each field of the struct that begins at token number
 /// `n`. Refuses any item other than a struct with named fields and no parameters.
 fn copy_of(source: &Source<'_>, n: usize) -> Result<String, Refusal> {
     let word = source.find(n, &["struct", "enum", "fn", ";", "{"])?;

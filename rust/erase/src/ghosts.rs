@@ -1,10 +1,10 @@
-//! The ends of ghost items and clauses. Their braces contain antt instead of Rust: its comments
-//! begin with `--`, and a quote is a letter. Used by `tokens`.
+//! Finds the ends of ghost items and clauses. The braces of a ghost item or clause contain antt
+//! instead of Rust. In antt, comments begin with `--`, and a quote is a letter. Used by `tokens`.
 
 use crate::Refusal;
 use crate::tokens::{line_end, string_end, word_end};
 
-/// Returns the byte offset after the blanks and comments that begin at byte offset `at`.
+/// Returns the byte offset after the blanks and comments that begin at the byte offset `at`.
 fn skip_blanks(bytes: &[u8], mut at: usize) -> usize {
     while at < bytes.len() {
         match bytes[at] {
@@ -16,9 +16,9 @@ fn skip_blanks(bytes: &[u8], mut at: usize) -> usize {
     at
 }
 
-/// Returns the byte offset after the antt braces that come next from `at` on, or a refusal if no
-/// braces come next or they do not end. They belong to the clause or item at `item`, which the
-/// refusal names.
+/// Skips the blanks and comments at `at` and the antt braces after them, and returns the byte
+/// offset after the braces. Returns a refusal if there are no braces or the braces do not end.
+/// `item` is the byte offset of the clause or item with the braces.
 fn braces_after(bytes: &[u8], item: usize, at: usize) -> Result<usize, Refusal> {
     let open = skip_blanks(bytes, at);
     if bytes.get(open) != Some(&b'{') {
@@ -39,15 +39,15 @@ fn braces_after(bytes: &[u8], item: usize, at: usize) -> Result<usize, Refusal> 
     Err(Refusal::new(open, "a brace of a clause or a ghost item that is not closed"))
 }
 
-/// Returns the byte offset after a clause, or a refusal if it has no braces: `requires` or
-/// `ensures` at `at..word`, optionally a name, and braces.
+/// Returns the byte offset after a clause: `requires` or `ensures` at `at..word`, optionally a
+/// name, and braces. Returns a refusal if the clause has no braces.
 pub(crate) fn clause_end(text: &str, at: usize, word: usize) -> Result<usize, Refusal> {
     let bytes = text.as_bytes();
     braces_after(bytes, at, word_end(bytes, skip_blanks(bytes, word)))
 }
 
-/// Returns the byte offset after a ghost item, whose word `ghost` is at `at..word`, or a refusal if
-/// it has none of these forms:
+/// Returns the byte offset after a ghost item whose word `ghost` is at `at..word`. Returns a
+/// refusal unless the item has one of these forms:
 ///
 /// - `ghost use path;`
 /// - `ghost name = {..};`, a member of an `impl`

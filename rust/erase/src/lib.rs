@@ -1,12 +1,12 @@
-//! The eraser, which removes the contracts from Rattle sources. The result is Rust.
+//! An eraser that removes the contracts from Rattle sources. The result is Rust.
 //!
 //! Used by the build scripts of the packages beside this one, which compile crates as modules.
 //!
 //! - Ghost items, clauses and everything else that only proofs need become blanks. A few names
-//!   become others of the same width. Thus each remaining token keeps its line and its column, and
-//!   an error of the compiler or a panic names the line of the `.rt` file.
-//! - Lines are added only after the last one: `use` declarations, and copies that Rust cannot
-//!   derive.
+//!   become other names of the same width. Each remaining token therefore keeps its line and its
+//!   column, and an error of the compiler or a panic names the line of the `.rt` file.
+//! - Lines are added only after the last line: `use` declarations, and an `impl` of `Clone` for
+//!   each derive of `Clone` that is removed.
 //! - Unknown forms are refused, with their file, line and column.
 #![forbid(unsafe_code)]
 
@@ -24,14 +24,15 @@ use std::fmt;
 /// The modules to which the paths in a file lead in the Rust package.
 #[derive(Clone, Default)]
 pub struct Paths<'a> {
-    /// The module of the root that contains the file's crate, such as `logos_hir`.
+    /// The name of the module of the package's root that contains the file's crate, such as
+    /// `logos_hir`.
     pub module: &'a str,
     /// The crates that paths in the file may name, each with the module that contains the crate,
     /// such as `crate`.
     pub libraries: Vec<(&'a str, &'a str)>,
 }
 
-/// The reason that a source was not erased: a form that this library does not know, with its
+/// The reason why a source was not erased: a form that this library does not know, with its
 /// location.
 #[derive(Clone, Debug, PartialEq, Eq)]
 pub struct Refusal {
@@ -57,7 +58,8 @@ impl fmt::Display for Refusal {
     }
 }
 
-/// Returns the Rust text of the Rattle source `text`, whose paths lead to the targets in `paths`.
+/// Returns the Rust text of the Rattle source `text`. The paths of the text lead to the modules in
+/// `paths`.
 ///
 /// # Errors
 ///

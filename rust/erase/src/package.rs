@@ -1,11 +1,11 @@
-//! The erasure of the crates of a Rust package to its modules. Used by build scripts, in the folder
-//! of their package.
+//! Erases the crates of a Rust package into the modules of the package. Used by build scripts,
+//! which run in the folder of their package.
 
 use crate::{Paths, erase};
 use std::path::{Path, PathBuf};
 use std::{env, fs, io};
 
-/// The crates that the package `logos-codegen` contains, together with the libraries below them.
+/// The crates that the package `logos-codegen` contains, together with the libraries that they use.
 pub const LIBRARY: [&str; 4] = ["logos_codegen", "logos_tables", "logos_help", "logos_derive"];
 
 /// A crate or a program that becomes a module of the package's root.
@@ -18,16 +18,19 @@ pub struct Module<'a> {
     pub added: &'a str,
 }
 
-/// The crates of the repository, and the libraries that each uses, from `crates.txt`.
+/// The crates of the repository, with the libraries that each crate uses, as listed in
+/// `crates.txt`.
 pub struct Crates {
     folder: &'static Path,
     rows: Vec<(String, Vec<String>)>,
 }
 
 impl Crates {
-    /// Returns the crates of the repository. The package has them as `bazel-crates` and
-    /// `bazel-crates.txt`: symbolic links in a clone, and copies if it is vendored. Rattle's gate
-    /// refuses links with other names. In a clone without links the crates are two folders above.
+    /// Returns the crates of the repository.
+    ///
+    /// The package contains the crates as `bazel-crates`, and their list as `bazel-crates.txt`.
+    /// These are symbolic links in a clone, and copies in a vendored package. Rattle's gate refuses
+    /// links with other names. In a clone without links, the crates are two folders above.
     ///
     /// # Errors
     ///
@@ -51,14 +54,14 @@ impl Crates {
     }
 
     /// Returns the names of the libraries that the crate `name` uses, or none if the list does not
-    /// have the crate.
+    /// contain the crate.
     fn libraries(&self, name: &str) -> impl Iterator<Item = &str> {
         let row = self.rows.iter().find(|(row, _)| row == name);
         row.into_iter().flat_map(|(_, libraries)| libraries).map(String::as_str)
     }
 
-    /// Returns the names of the crates `roots` and of those that they use, directly or not, in the
-    /// order of the list.
+    /// Returns the names of the crates `roots` and of all crates that they use, directly or
+    /// indirectly, in the order of the list.
     pub fn closure(&self, roots: &[&str]) -> Vec<&str> {
         let (mut needed, mut left) = (Vec::new(), roots.to_vec());
         while let Some(name) = left.pop() {
@@ -81,13 +84,14 @@ impl Crates {
     }
 }
 
-/// Erases modules into the folder `OUT_DIR`, and writes the file `crates.rs` there, which declares
-/// these modules. A module becomes a file with its name, and a folder with the modules in it.
+/// Erases modules into the folder `OUT_DIR`, and writes the file `crates.rs` in this folder, which
+/// declares the modules. Each module becomes a file with its name, and a folder with the modules in
+/// it.
 ///
 /// # Errors
 ///
-/// Returns an error if a file cannot be read, erased or written. Other files may have been written
-/// then.
+/// Returns an error if a file cannot be read, erased or written. In this case, other files may have
+/// been written.
 pub fn build(modules: &[Module<'_>]) -> io::Result<()> {
     let out = PathBuf::from(env::var_os("OUT_DIR").unwrap_or_default());
     let mut declarations = String::new();
@@ -99,8 +103,8 @@ pub fn build(modules: &[Module<'_>]) -> io::Result<()> {
     write(&out.join("crates.rs"), declarations)
 }
 
-/// Erases the sources of a module: the root into the file `target` with the extension `rs`, the
-/// others into the folder `target`. Modules named `laws` are left out.
+/// Erases the sources of a module: the root into the file `target` with the extension `rs`, and the
+/// other sources into the folder `target`. Modules named `laws` are left out.
 fn erase_module(module: &Module<'_>, target: &Path) -> io::Result<()> {
     let (paths, root) = (&module.paths, target.with_extension("rs"));
     if module.source.is_file() {
@@ -132,7 +136,7 @@ fn erase_file(path: &Path, target: &Path, paths: &Paths<'_>, added: &str) -> io:
     write(target, erased + added)
 }
 
-/// Writes a file, after its folder is created if it does not exist.
+/// Writes a file. Creates the folder of the file if it does not exist.
 fn write(path: &Path, text: String) -> io::Result<()> {
     fs::create_dir_all(path.parent().unwrap_or(path)).map_err(named(path))?;
     fs::write(path, text).map_err(named(path))

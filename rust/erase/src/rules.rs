@@ -1,5 +1,5 @@
-//! The rules that turn the code of a Rattle source into Rust. Each examines a token and those
-//! around it. Used by `erase`.
+//! The rules that turn the code of a Rattle source into Rust. Each rule examines a token and the
+//! tokens around it. Used by `erase`.
 
 use crate::attributes::attribute;
 use crate::source::Source;
@@ -8,8 +8,8 @@ use crate::{Paths, Refusal};
 /// The number of the last token that a rule has handled, or the refusal of a form.
 pub(crate) type Step = Result<usize, Refusal>;
 
-/// The methods that take an allocator in Rattle and none in Rust, each with the name of the method
-/// that takes one.
+/// The methods that take an allocator in Rattle but not in Rust, each with the name of the method
+/// that takes an allocator.
 const WITH_ALLOCATOR: [(&str, &str); 4] = [
     ("collect", "list_in"),
     ("to_vec", "vec_in"),
@@ -34,8 +34,8 @@ impl Names<'_> {
     }
 }
 
-/// Applies all rules to the code of a source, and returns the lines that have to be added after its
-/// last one.
+/// Applies all rules to the code of a source. Returns the lines to add after the last line of the
+/// source.
 pub(crate) fn apply(source: &mut Source<'_>, paths: &Paths<'_>) -> Result<String, Refusal> {
     let (mut names, mut copies) = (Names::default(), String::new());
     let mut n = 0;
@@ -55,8 +55,8 @@ pub(crate) fn apply(source: &mut Source<'_>, paths: &Paths<'_>) -> Result<String
     Ok(format!("\nuse std::prelude::*;\n{}{copies}", names.uses))
 }
 
-/// Blanks the `use` or `mod` at the token `n` if it declares laws, whose names it adds to `names`,
-/// or a name that only models need.
+/// Blanks the `use` or `mod` at token number `n` if it declares laws or a name that only models
+/// need. Adds the names of the laws to `names`.
 fn declaration<'t>(source: &mut Source<'t>, n: usize, names: &mut Names<'t>) -> Step {
     let end = source.find(n, &[";"])?;
     let law = (n..end).find(|&k| source.at(k) == "laws");
@@ -69,7 +69,8 @@ fn declaration<'t>(source: &mut Source<'t>, n: usize, names: &mut Names<'t>) -> 
     Ok(end)
 }
 
-/// Blanks the `impl` at the token `n` if it is one of `Model`, and refuses one of `Drop`.
+/// Blanks the `impl` at token number `n` if it is an `impl` of `Model`. Refuses an `impl` of
+/// `Drop`.
 fn implementation(source: &mut Source<'_>, n: usize) -> Step {
     let open = source.find(n, &["{", ";"])?;
     let trait_end = (n..open).find(|&k| source.at(k) == "for").map_or("", |k| source.before(k));
@@ -81,8 +82,8 @@ fn implementation(source: &mut Source<'_>, n: usize) -> Step {
     Ok(source.closing(open))
 }
 
-/// Replaces the `crate` at the token `n` of a path by `krate`, a name of the module that contains
-/// the crate, and adds the declaration of this name to `names`.
+/// Replaces the `crate` at token number `n` of a path with `krate`, a name for the module that
+/// contains the crate. Adds the declaration of this name to `names`.
 fn own_path(source: &mut Source<'_>, n: usize, paths: &Paths<'_>, names: &mut Names<'_>) -> Step {
     match (source.before(n), source.at(n + 1)) {
         (before, "::") if before != "in" && before != "$" => source.rename(n, "krate"),
@@ -93,8 +94,8 @@ fn own_path(source: &mut Source<'_>, n: usize, paths: &Paths<'_>, names: &mut Na
     Ok(n)
 }
 
-/// Adds to `names` the declaration of the library with which a path at the token `n` begins, if
-/// there is such a path.
+/// Adds the declaration of a library to `names` if a path that begins with the library begins at
+/// token number `n`.
 fn note_library(source: &Source<'_>, n: usize, paths: &Paths<'_>, names: &mut Names<'_>) {
     let (before, after) = (source.before(n), source.at(n + 1));
     let is_path = after == "::" || before == "use" && [";", "as"].contains(&after);
@@ -106,8 +107,9 @@ fn note_library(source: &Source<'_>, n: usize, paths: &Paths<'_>, names: &mut Na
     }
 }
 
-/// Applies the rule for `word`, the token `n`, if there is one: blanks a bound `Drop`, a parameter
-/// of formatting or a call of a law, renames a method, or refuses a form that must not occur.
+/// Applies the rule for `word`, the text of token number `n`, if there is one. The rule blanks a
+/// bound `Drop`, a parameter of formatting or a call of a law, renames a method, or refuses a form
+/// that must not occur.
 fn keyword(source: &mut Source<'_>, n: usize, word: &str, names: &Names<'_>) -> Step {
     let after = source.at(n + 1);
     match word {
@@ -129,7 +131,7 @@ fn keyword(source: &mut Source<'_>, n: usize, word: &str, names: &Names<'_>) -> 
     Ok(n)
 }
 
-/// Blanks the bound `Drop` at the token `n`: each type of Rust may be dropped.
+/// Blanks the bound `Drop` at token number `n`, because each type of Rust may be dropped.
 fn bound(source: &mut Source<'_>, n: usize) -> Step {
     match (source.before(n), source.at(n + 1)) {
         ("+", _) => source.blank(n - 1, n),
@@ -140,7 +142,8 @@ fn bound(source: &mut Source<'_>, n: usize) -> Step {
     Ok(n)
 }
 
-/// Renames the method at the token `n` if it is one of [`WITH_ALLOCATOR`] and has arguments.
+/// Renames the method at token number `n` if the method is one of [`WITH_ALLOCATOR`] and has
+/// arguments.
 fn method(source: &mut Source<'_>, n: usize, word: &str) -> Step {
     if let Some(&(_, name)) = WITH_ALLOCATOR.iter().find(|(name, _)| *name == word) {
         match (source.at(n + 1), source.at(n + 2)) {
@@ -152,7 +155,7 @@ fn method(source: &mut Source<'_>, n: usize, word: &str) -> Step {
     Ok(n)
 }
 
-/// Blanks the call of a law at the token `n`, which must be a statement.
+/// Blanks the call of a law at token number `n`. The call must be a statement.
 fn law(source: &mut Source<'_>, n: usize) -> Step {
     let end = source.closing(n + 1) + 1;
     if !["{", "}", ";"].contains(&source.before(n)) || source.at(end) != ";" {

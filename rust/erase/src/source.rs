@@ -1,25 +1,26 @@
-//! The tokens of a source, with the operations by which rules examine and change these tokens. Used
-//! by `rules` and `attributes`.
+//! The tokens of a source, with the operations that rules use to examine and change the tokens.
+//! Used by `rules` and `attributes`.
 
 use crate::Refusal;
 use crate::tokens::{Kind, token_at};
 
-/// A token of code, with the range of its bytes in the source, `from..to`.
+/// A token of code, which consists of the bytes `from..to` of the source.
 struct Token {
     from: usize,
     to: usize,
-    /// The number of the token that closes this one, if it is an opening bracket, otherwise 0.
+    /// The number of the closing bracket if this token is an opening bracket, and 0 otherwise.
     closing: usize,
 }
 
-/// A source, and the numbered tokens of its code: all except comments, ghost items and clauses.
+/// A source, with the numbered tokens of its code. Comments, ghost items and clauses are not tokens
+/// of code.
 pub(crate) struct Source<'t> {
     text: &'t str,
     tokens: Vec<Token>,
     /// The byte ranges of all comments.
     comments: Vec<(usize, usize)>,
-    /// The byte ranges to change, each with the name that replaces its bytes, which is empty for
-    /// blanks.
+    /// The byte ranges to change, each with the name that replaces its bytes. The name is empty if
+    /// the bytes become blanks.
     edits: Vec<(usize, usize, &'static str)>,
 }
 
@@ -49,8 +50,8 @@ impl<'t> Source<'t> {
         }
     }
 
-    /// Adds the token at `from..to`. An opening bracket is added to `open`; a closing one is paired
-    /// with the last of `open`, or refused.
+    /// Adds the token at `from..to`. The number of an opening bracket is added to `open`. A closing
+    /// bracket is paired with the last bracket in `open`, or refused if the two do not match.
     fn push(&mut self, from: usize, to: usize, open: &mut Vec<usize>) -> Result<(), Refusal> {
         let n = self.tokens.len();
         self.tokens.push(Token { from, to, closing: 0 });
@@ -70,30 +71,31 @@ impl<'t> Source<'t> {
         self.tokens.len()
     }
 
-    /// Returns the text of the token `n`, or an empty text after the last token.
+    /// Returns the text of token number `n`, or an empty text if there is no such token.
     pub(crate) fn at(&self, n: usize) -> &'t str {
         self.tokens.get(n).map_or("", |token| &self.text[token.from..token.to])
     }
 
-    /// Returns the text of the token before the token `n`, or an empty text before the first one.
+    /// Returns the text of the token before token number `n`, or an empty text before the first
+    /// token.
     pub(crate) fn before(&self, n: usize) -> &'t str {
         n.checked_sub(1).map_or("", |n| self.at(n))
     }
 
-    /// Returns whether the tokens from `n` on have the texts of `pattern`.
+    /// Returns whether the tokens from token number `n` on begin with the texts in `pattern`.
     pub(crate) fn matches(&self, n: usize, pattern: &[&str]) -> bool {
         pattern.iter().enumerate().all(|(k, text)| self.at(n + k) == *text)
     }
 
-    /// Returns the number of the first token from `n` on with one of `texts`, or a refusal if there
-    /// is none.
+    /// Returns the number of the first token from token number `n` on whose text is in `texts`, or
+    /// a refusal if there is no such token.
     pub(crate) fn find(&self, n: usize, texts: &[&str]) -> Result<usize, Refusal> {
         let found = (n..self.len()).find(|&k| texts.contains(&self.at(k)));
         found.map_or_else(|| self.refusal(n, "an item that does not end"), Ok)
     }
 
-    /// Returns the number of the token that closes the opening bracket `n`, or `n` if this token
-    /// opens no bracket.
+    /// Returns the number of the token that closes the opening bracket at token number `n`, or `n`
+    /// if this token is not an opening bracket.
     pub(crate) fn closing(&self, n: usize) -> usize {
         self.tokens.get(n).map_or(n, |token| token.closing.max(n))
     }
@@ -102,18 +104,18 @@ impl<'t> Source<'t> {
         Err(Refusal::new(self.tokens.get(n).map_or(self.text.len(), |token| token.from), message))
     }
 
-    /// Replaces the token `n` by `name`, which must have the same width.
+    /// Replaces token number `n` with `name`, which must have the same width as the token.
     pub(crate) fn rename(&mut self, n: usize, name: &'static str) {
         self.edits.push((self.tokens[n].from, self.tokens[n].to, name));
     }
 
-    /// Blanks the source from the token `from` to the token `to`, both included.
+    /// Blanks the source from token number `from` to token number `to`, inclusive.
     pub(crate) fn blank(&mut self, from: usize, to: usize) {
         self.add_blanks(self.tokens[from].from, self.tokens[to].to);
     }
 
-    /// Blanks the item from the token `from` to the token `to`, both included, with its visibility
-    /// and the comments directly above.
+    /// Blanks the item from token number `from` to token number `to`, inclusive, together with its
+    /// visibility and the comments directly above it.
     pub(crate) fn blank_item(&mut self, from: usize, to: usize) {
         let start = match self.before(from) {
             "pub" => from - 1,
@@ -123,8 +125,8 @@ impl<'t> Source<'t> {
         self.blank_text(self.tokens[start].from, self.tokens[to].to);
     }
 
-    /// Blanks the bytes `from..to`, and the comments on the lines directly above, except those that
-    /// document the file.
+    /// Blanks the bytes `from..to` and the comments on the lines directly above, except for
+    /// comments that document the file.
     fn blank_text(&mut self, from: usize, to: usize) {
         let mut start = from;
         let above = self.comments.partition_point(|comment| comment.1 <= from);
@@ -140,7 +142,7 @@ impl<'t> Source<'t> {
         self.add_blanks(start, to);
     }
 
-    /// Blanks the bytes `from..to`, and the end of their line if nothing else follows on it.
+    /// Blanks the bytes `from..to`, and the end of their line if nothing else follows on the line.
     fn add_blanks(&mut self, from: usize, to: usize) {
         let rest = self.text[to..].trim_start_matches([' ', '\r']);
         let end = self.text.len() - rest.len();
@@ -164,8 +166,8 @@ impl<'t> Source<'t> {
     }
 }
 
-/// Appends a blank for each character of `text`, or nothing if `name` has replaced it. Trailing
-/// blanks of lines are removed.
+/// Appends a blank or a line end for each character of `text` if `name` is empty, and nothing
+/// otherwise. Trailing blanks of lines are removed.
 fn push_blanks(output: &mut String, text: &str, name: &str) {
     for character in text.chars().filter(|_| name.is_empty()) {
         if character == '\n' {

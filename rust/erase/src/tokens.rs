@@ -13,8 +13,8 @@ pub(crate) enum Kind {
     Ghost,
 }
 
-/// Returns the kind of the token that begins at byte offset `at`, and the offset after it. Refuses
-/// a token that does not end, and a character that begins no token.
+/// Returns the kind of the token that begins at the byte offset `at`, and the offset after the
+/// token. Refuses a token that does not end, and a character that begins no token.
 pub(crate) fn token_at(text: &str, at: usize) -> Result<(Kind, usize), Refusal> {
     let bytes = text.as_bytes();
     match (bytes[at], bytes.get(at + 1)) {
@@ -29,7 +29,8 @@ pub(crate) fn token_at(text: &str, at: usize) -> Result<(Kind, usize), Refusal> 
     }
 }
 
-/// Returns the byte offset of the end of the line on which `at` is, without its line end.
+/// Returns the byte offset at which the line that contains the offset `at` ends, before its line
+/// end.
 pub(crate) fn line_end(bytes: &[u8], at: usize) -> usize {
     let length = bytes[at..].iter().position(|byte| *byte == b'\n');
     length.map_or(bytes.len(), |length| at + length)
@@ -43,9 +44,9 @@ pub(crate) fn word_end(bytes: &[u8], mut at: usize) -> usize {
     at
 }
 
-/// Returns the kind of the token that begins with a word at byte offset `at`, and the offset after
-/// it. The token is the word, a literal with a prefix, a ghost item or a clause. Refuses one of the
-/// last three that does not end.
+/// Returns the kind of the token that begins with a word at the byte offset `at`, and the offset
+/// after the token. The token is the word, a literal with a prefix, a ghost item or a clause.
+/// Refuses a literal, a ghost item or a clause that does not end.
 fn word_at(text: &str, at: usize) -> Result<(Kind, usize), Refusal> {
     let bytes = text.as_bytes();
     let to = word_end(bytes, at);
@@ -59,8 +60,8 @@ fn word_at(text: &str, at: usize) -> Result<(Kind, usize), Refusal> {
     }
 }
 
-/// Returns the byte offset after the string whose opening quote is at `at`, or a refusal if it does
-/// not end.
+/// Returns the byte offset after the string whose opening quote is at `at`, or a refusal if the
+/// string does not end.
 pub(crate) fn string_end(bytes: &[u8], at: usize) -> Result<usize, Refusal> {
     let mut end = at + 1;
     while end < bytes.len() {
@@ -73,8 +74,8 @@ pub(crate) fn string_end(bytes: &[u8], at: usize) -> Result<usize, Refusal> {
     Err(Refusal::new(at, "a string that does not end"))
 }
 
-/// Returns the byte offset after the raw string that begins at `at`, and whose hashes, if any,
-/// begin at `hashes`, or a refusal if it does not end.
+/// Returns the byte offset after the raw string that begins at `at`, or a refusal if the string
+/// does not end. The hashes of the string, if there are any, begin at `hashes`.
 fn raw_string_end(text: &str, at: usize, hashes: usize) -> Result<usize, Refusal> {
     let count = text[hashes..].bytes().take_while(|byte| *byte == b'#').count();
     let closing = format!("\"{}", &text[hashes..hashes + count]);
@@ -86,7 +87,7 @@ fn raw_string_end(text: &str, at: usize, hashes: usize) -> Result<usize, Refusal
 }
 
 /// Returns the byte offset after the lifetime or the character whose quote is at `at`, or a refusal
-/// if it is neither.
+/// if the quote begins neither.
 fn quote_end(text: &str, at: usize) -> Result<usize, Refusal> {
     let rest = &text[at + 1..];
     let length = rest.chars().next().map_or(0, char::len_utf8);
@@ -102,8 +103,8 @@ fn quote_end(text: &str, at: usize) -> Result<usize, Refusal> {
     }
 }
 
-/// Returns the byte offset after the comment in `/*` and `*/` that begins at `at`, or a refusal if
-/// it does not end. Comments may be nested.
+/// Returns the byte offset after the block comment that begins at `at`, or a refusal if the comment
+/// does not end. Block comments may be nested.
 fn block_comment_end(bytes: &[u8], at: usize) -> Result<usize, Refusal> {
     let (mut depth, mut end) = (0, at);
     while end + 1 < bytes.len() {

@@ -1,5 +1,5 @@
-//! The expansion of the lexers of a Rust file in a build script. Used by build scripts, under the
-//! name `logos_build`.
+//! Expands the lexers of a Rust file in a build script. Used by build scripts, under the name
+//! `logos_build`.
 
 // In this package `std` is Rattle's.
 extern crate std as rust_std;
@@ -22,7 +22,7 @@ pub enum Shape {
     Tables,
     /// A function for each state.
     Tailcall,
-    /// One loop, with an arm for each state.
+    /// One loop, with a match arm for each state.
     StateMachine,
 }
 
@@ -36,7 +36,7 @@ impl Shape {
     }
 }
 
-/// The settings with which files are expanded.
+/// The settings for expanding files.
 #[derive(Clone, Debug, Default)]
 #[must_use = "`expand` expands a file"]
 pub struct Build {
@@ -44,7 +44,7 @@ pub struct Build {
 }
 
 impl Build {
-    /// Returns the default settings: the shape of tables.
+    /// Returns the default settings, with the shape [`Shape::Tables`].
     pub fn new() -> Build {
         Build::default()
     }
@@ -85,8 +85,8 @@ impl Build {
         Ok(output)
     }
 
-    /// Runs `logos_cli` on the path `source` with the option `--output`, and returns its messages:
-    /// the warnings, or the faults as an error.
+    /// Runs `logos_cli` on the file at `source` and writes the result to `output`. Returns the
+    /// warnings, or the faults as an error.
     fn run(&self, source: &str, output: &str) -> Result<String, String> {
         let words = [
             source,
@@ -109,14 +109,14 @@ impl Build {
     }
 }
 
-/// Expands the lexers of the Rust file `source` of the package in the shape of tables, and returns
-/// the path of the result, like [`Build::expand`].
+/// Expands the lexers of the Rust file `source` of the package with the default settings, and
+/// returns the path of the result, like [`Build::expand`].
 pub fn expand(source: impl AsRef<Path>) -> PathBuf {
     Build::new().expand(source)
 }
 
-/// Returns a path as an argument, or a message if it is not UTF-8 or has control characters: Cargo
-/// reads paths from lines, so a path with a line end is invalid.
+/// Returns a path as an argument, or a message if the path is not UTF-8 or has control characters.
+/// Cargo reads paths from lines, so a path with a line end is invalid.
 fn word(path: &Path) -> Result<&str, String> {
     let word = path
         .to_str()

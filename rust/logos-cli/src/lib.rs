@@ -1,6 +1,5 @@
-//! For build scripts of packages whose lexers are in a file: `expand` expands a Rust file like the
-//! program `logos_cli`. The package has the three programs `logos`, `logos_cli` and `logos_show`,
-//! too.
+//! Expands the lexers of Rust files in build scripts. `expand` expands a file like the program
+//! `logos_cli`. The package also contains the programs `logos`, `logos_cli` and `logos_show`.
 //!
 //! ```no_run
 //! // build.rs
@@ -13,8 +12,8 @@
 //! include!(concat!(env!("OUT_DIR"), "/lexers.rs"));
 //! ```
 //!
-//! The modules `logos_*` are crates of the repository, from which a build script removes the
-//! contracts, as in the package `logos-codegen`.
+//! The modules `logos_*` are crates of the repository. As in the package `logos-codegen`, a build
+//! script removes their contracts.
 
 #![no_std]
 #![forbid(unsafe_code)]

@@ -9,15 +9,15 @@ use std::prelude::{HostRuntime, String, Vec};
 use std::process::ExitCode;
 use std::time::Clock;
 
-/// The line that `--version` prints after the version. The programs do not print it if it names no
-/// commit.
+/// The line that `--version` prints after the version. The programs do not print the line if it
+/// names no commit.
 const COMMIT: &str = concat!("commit: ", env!("LOGOS_COMMIT"), "\n");
 
 /// The exit status if the variable `LOGOS_MEMORY` is not a number of bytes.
 const MISUSE: u8 = 2;
 
-/// A program: a function that takes the runtime, and the arguments of the process or the failure to
-/// read them, and returns the exit status.
+/// A program: a function that returns the exit status. The function takes the runtime, and the
+/// arguments of the process or the failure to read them.
 type Program = fn(&HostRuntime, Result<Vec<String>, Failure<'static>>) -> u8;
 
 /// Runs a program with the arguments of the process, and returns its exit status, or [`MISUSE`] if
@@ -31,9 +31,9 @@ pub fn run(program: Program) -> ExitCode {
     ExitCode::from(program(&HostRuntime, arguments(&HostRuntime)))
 }
 
-/// Runs `logos_show` with `arguments`, which do not contain its name, on other files and on another
-/// system, which has a clock, a standard input and variables. Returns the exit status. Appends the
-/// standard error to `err`, and the standard output to `out`.
+/// Runs `logos_show` on the files `files` and the system `system`, which has a clock, a standard
+/// input and variables. `arguments` does not contain the name of the program. Returns the exit
+/// status. Appends the standard error to `err` and the standard output to `out`.
 pub fn show<F: ComparableFiles, S: Clock + Input + Env>(
     arguments: &[String],
     files: &mut F,

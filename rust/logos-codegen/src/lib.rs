@@ -1,11 +1,11 @@
-//! The library that `#[derive(Logos)]` calls: from the source of an enum to its lexer.
+//! The library that `#[derive(Logos)]` calls to turn the source of an enum into its lexer.
 //!
 //! The items at the root are those of the crate `logos_codegen` of the repository. The modules
 //! `logos_*` are the crates of the library. Their sources are written in Rattle, which is Rust with
-//! contracts, and are proved there. A build script removes the contracts and leaves the rest
+//! contracts, and are proved in Rattle. A build script removes the contracts and leaves the rest
 //! unchanged, so lines and columns are those of the `.rt` files. That the result behaves as proved
-//! depends on that script, on `rattle-std`, and on the Rust compiler. The tests of the repository
-//! run both.
+//! depends on this script, on `rattle-std`, and on the Rust compiler. The tests of the repository
+//! run both the sources and the result.
 
 #![no_std]
 #![forbid(unsafe_code)]
@@ -35,7 +35,7 @@ include!(concat!(env!("OUT_DIR"), "/crates.rs"));
 
 pub use self::logos_codegen::*;
 
-/// The example of the package's page, which `cargo test` runs.
+/// The README of the package, whose example `cargo test` runs.
 #[cfg(doctest)]
 #[doc = include_str!("../README.md")]
 struct Readme;

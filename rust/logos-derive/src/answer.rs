@@ -1,4 +1,5 @@
-//! The library's answers about an enum, in types of Rust's own library. Used by all other modules.
+//! The library's answers about an enum, in types of Rust's standard library. Used by all other
+//! modules.
 
 use crate::question::Question;
 use logos_codegen::logos_codegen::generator::Config;
@@ -34,24 +35,24 @@ pub struct Piece {
 /// A fault or a warning about an enum.
 pub struct Diagnostic {
     pub is_error: bool,
-    /// The first line of the diagnostic, which begins with the code, in brackets, if there is one.
+    /// The first line of the diagnostic. It begins with the code in brackets if there is a code.
     pub message: String,
-    /// The byte range of the source in which the diagnostic is.
+    /// The span of the diagnostic: a byte range of the source.
     pub span: Range<usize>,
-    /// The byte range of the faulty part of a literal, if that is not all of `span`.
+    /// The byte range of the faulty part of a literal, if this part is not all of `span`.
     pub carets: Option<Range<usize>>,
     pub labels: Vec<Label>,
-    /// The notes, each of which begins with `note: ` or `help: `.
+    /// The notes. Each note begins with `note: ` or `help: `.
     pub notes: Vec<String>,
 }
 
-/// Another span of a diagnostic, in bytes of the source, with its label.
+/// A further span of a diagnostic: a byte range of the source, with a label.
 pub struct Label {
     pub span: Range<usize>,
     pub text: String,
 }
 
-/// A message: the reason that there is no answer, and perhaps a way to fix that.
+/// A message that explains why there is no answer, and perhaps how to fix this.
 pub struct Failure(pub String);
 
 /// The shape of an implementation, named as in the variable `LOGOS_SHAPE`.
@@ -90,8 +91,7 @@ pub fn set_budget() -> Result<(), Failure> {
 ///
 /// # Errors
 ///
-/// Returns a message if memory runs out, or if the library panics, which is a mistake in the
-/// library.
+/// Returns a message if memory runs out, or if the library panics. A panic is a bug in the library.
 pub fn ask(question: &Question, shape: ShapeName) -> Result<Answer, Failure> {
     let derive = || library::derive(Global, &question.text, shape.shape(), &FaultHelps);
     match catch_unwind(AssertUnwindSafe(derive)) {

@@ -1,4 +1,4 @@
-//! Faults as compile errors. Used by the macro, and by `warning` for texts.
+//! Turns faults into compile errors. Used by the macro, and by `warning` for the texts of warnings.
 
 use crate::answer::{Diagnostic, Failure, Label};
 use crate::question::{Place, Question};
@@ -22,8 +22,7 @@ fn error_at(text: &str, place: Option<Place>) -> TokenStream {
     }
 }
 
-/// Returns the whole text of a fault or a warning: its first line, and after it the notes and
-/// helps.
+/// Returns the whole text of a fault or a warning: its first line, followed by its notes and helps.
 pub fn text(found: &Diagnostic, question: &Question) -> String {
     let mut lines = vec![found.message.clone()];
     lines.extend(in_literal(found, question));
@@ -37,8 +36,8 @@ pub fn text(found: &Diagnostic, question: &Question) -> String {
     lines.join("\n")
 }
 
-/// Returns the note for another span: its label, and its text. Returns `None` if the span is not in
-/// the text of the enum.
+/// Returns the note for another span of a diagnostic: the label, and the text at the span. Returns
+/// `None` if the span is not in the text of the enum.
 fn other(label: &Label, question: &Question) -> Option<String> {
     let tokens = question.text.get(label.span.clone())?;
     Some(format!("note: {}: `{}`", label.text, shortened(tokens)))
@@ -72,7 +71,8 @@ fn in_literal(found: &Diagnostic, question: &Question) -> Option<String> {
     ))
 }
 
-/// Returns how many carets mark a part: one for each character of its first line, and at least one.
+/// Returns the number of carets that mark a part: one for each character of its first line, and at
+/// least one.
 fn marked(part: &Range<usize>, question: &Question) -> usize {
     let first = question
         .text
@@ -81,8 +81,8 @@ fn marked(part: &Range<usize>, question: &Question) -> usize {
     first.map_or(1, |text| text.chars().count().max(1))
 }
 
-/// Returns whether each terminal shows a character in one column, so that carets below it are
-/// aligned.
+/// Returns whether every terminal shows a character in exactly one column, so that carets below the
+/// character are aligned.
 fn has_one_column(c: char) -> bool {
     matches!(c, ' '..='~' | '\u{a1}'..='\u{2ff}' | '\u{370}'..='\u{52f}') && c != '\u{ad}'
 }
@@ -103,8 +103,8 @@ fn shortened(text: &str) -> String {
     }
 }
 
-/// Returns `::core::compile_error! { ".." }` with the message `text`, which the compiler shows from
-/// the span `first` to `last`.
+/// Returns `::core::compile_error! { ".." }` with the message `text`. The compiler shows the error
+/// at the tokens from the span `first` to the span `last`.
 fn compile_error(text: &str, first: Span, last: Span) -> TokenStream {
     let punct = |c, spacing| {
         let mut punct = Punct::new(c, spacing);

@@ -1,4 +1,4 @@
-//! The tokens of an implementation, with the user's own tokens for the pieces of the source.
+//! Reads an implementation as tokens, with the user's own tokens for the pieces of the source.
 
 use crate::answer::{Failure, Implementation, Piece};
 use crate::question::Question;
@@ -6,8 +6,8 @@ use proc_macro::{Delimiter, Group, Span, TokenStream, TokenTree};
 use std::ops::Range;
 use std::vec::IntoIter;
 
-/// The attribute before an implementation, which silences lints of clippy for generated code.
-/// Clippy detects by itself that the user's tokens come from a macro.
+/// The attribute before an implementation, which silences Clippy lints for generated code. Clippy
+/// detects by itself that the user's tokens come from a macro.
 const LINTS: &str = "#[allow(clippy::manual_range_contains, clippy::question_mark)] ";
 
 /// The user's tokens for a part of an implementation.
@@ -15,8 +15,8 @@ struct Filling {
     /// The byte range of the part in the implementation.
     range: Range<usize>,
     tokens: Vec<TokenTree>,
-    /// The span of a piece, such as a callback, if that is from an attribute. Errors in the
-    /// generated code right after the piece are shown there, too.
+    /// The span of the piece, such as a callback, if the piece is from an attribute. Errors in the
+    /// generated code right after the piece are also shown at this span.
     anchor: Option<Span>,
     /// The spans of the first and the last token of a field's type, if the piece is the name of a
     /// variant that has a field.
@@ -45,8 +45,8 @@ pub fn tokens(
     Ok(Rest { name, fillings }.fill(stream, None).0)
 }
 
-/// Returns the user's tokens for a piece, or `None` if the source has no whole tokens there. Then
-/// the printed form of the piece remains.
+/// Returns the user's tokens for a piece, or `None` if the piece does not consist of whole tokens
+/// in the source. In that case, the printed form of the piece remains.
 fn filling(piece: &Piece, question: &Question) -> Option<Filling> {
     let tokens = question.cut(&piece.source)?;
     let is_in_attribute = question.is_in_attribute(piece.source.start);
@@ -58,8 +58,8 @@ fn filling(piece: &Piece, question: &Question) -> Option<Filling> {
     })
 }
 
-/// Returns the span of the last token if that is a name, otherwise that of the first token, or
-/// `None` without tokens.
+/// Returns the span of the last token if this token is a name, and the span of the first token
+/// otherwise. Returns `None` if there are no tokens.
 fn anchor(tokens: &[TokenTree]) -> Option<Span> {
     match tokens {
         [.., TokenTree::Ident(name)] => Some(name.span()),
@@ -76,8 +76,8 @@ fn new_name(text: &str) -> String {
     name
 }
 
-/// Returns the text of an implementation after [`LINTS`], with `name` instead of each piece that is
-/// filled in.
+/// Returns [`LINTS`], followed by the text of an implementation in which `name` replaces each piece
+/// that is filled in.
 fn with_name(text: &str, fillings: &[Filling], name: &str) -> String {
     let mut named = String::with_capacity(LINTS.len() + text.len());
     named.push_str(LINTS);
@@ -91,7 +91,7 @@ fn with_name(text: &str, fillings: &[Filling], name: &str) -> String {
     named
 }
 
-/// The name that occurs instead of pieces, and the fillings for its occurrences that remain.
+/// The name that replaces pieces, and the fillings for its remaining occurrences.
 struct Rest {
     name: String,
     fillings: IntoIter<Filling>,
@@ -99,9 +99,11 @@ struct Rest {
 
 impl Rest {
     /// Returns the tokens of `stream`, the contents of a group, with the pieces filled in, and the
-    /// last anchor of the group itself. Each other token is shown at the anchor before it, which is
-    /// one of the group itself or of a group in it. The first anchor of parentheses is the one
-    /// before them, `before`.
+    /// last anchor that is directly in the group.
+    ///
+    /// Each token of the generated code is shown at the preceding anchor in the group or in its
+    /// inner groups. Tokens before the first anchor are shown at `before`, the anchor before the
+    /// group, if the group is in parentheses.
     fn fill(&mut self, stream: TokenStream, before: Option<Span>) -> (TokenStream, Option<Span>) {
         if self.is_done() && before.is_none() {
             return (stream, None);
@@ -129,8 +131,7 @@ impl Rest {
         self.fillings.as_slice().is_empty()
     }
 
-    /// Returns the next filling if `tree` is the name that occurs instead of pieces, otherwise
-    /// `None`.
+    /// Returns the next filling if `tree` is the name that replaces pieces, and `None` otherwise.
     fn filling_at(&mut self, tree: &TokenTree) -> Option<Filling> {
         match tree {
             TokenTree::Ident(word) if !self.is_done() && word.to_string() == self.name => {
@@ -140,8 +141,9 @@ impl Rest {
         }
     }
 
-    /// Returns a token tree, filled in, that is shown at the last anchor in it, or otherwise at
-    /// `anchor`, the one before it. Returns also the last anchor in it.
+    /// Returns a token tree with its pieces filled in, and the last anchor in it. The token tree is
+    /// shown at this anchor. If the token tree contains no anchor, it is shown at `anchor`, the
+    /// preceding anchor.
     fn shown(&mut self, mut tree: TokenTree, anchor: Option<Span>) -> (TokenTree, Option<Span>) {
         let (mut span, mut last) = (tree.span(), None);
         if let TokenTree::Group(group) = &tree {
@@ -158,8 +160,9 @@ impl Rest {
     }
 }
 
-/// Returns the token tree after the name of a variant. If that is a group, the value of the field
-/// in it is shown at the field's type, from the token `first` to `last`.
+/// Returns `tree`, the token tree after the name of a variant. If `tree` is a group, the value of
+/// the field in the group is shown at the field's type, from the token at `first` to the token at
+/// `last`.
 fn constructed(tree: TokenTree, (first, last): (Span, Span)) -> TokenTree {
     let TokenTree::Group(group) = &tree else {
         return tree;

@@ -7,7 +7,7 @@ use std::collections::HashMap;
 use std::iter::from_fn;
 
 /// The generic parameters of an implementation, the arguments of its type, and its `where` clause.
-/// All lifetimes but `'static` are `'s`.
+/// All lifetimes except `'static` are `'s`.
 #[derive(Default)]
 pub struct Generics {
     pub parameters: TokenStream,
@@ -16,16 +16,16 @@ pub struct Generics {
     pub bounds: TokenStream,
 }
 
-/// The types that an enum names for its type parameters, by the names of these.
+/// The types that an enum names for its type parameters, by the names of the parameters.
 pub type Types = HashMap<String, TokenStream>;
 
-/// Reads the generic parameters of an enum and its `where` clause, and returns those of the
+/// Reads the generic parameters and the `where` clause of an enum, and returns the generics of the
 /// implementation.
 ///
 /// A type parameter is replaced by the type that the enum names for it. A type parameter without
-/// bounds for which the enum names no type is replaced by `()`: rustc could not infer the type in
-/// `Token::lexer(text)`. Any other type parameter remains, and so do all type parameters of an enum
-/// with a `where` clause.
+/// bounds is replaced by `()` if the enum names no type for it, because rustc could not infer the
+/// type in `Token::lexer(text)`. Any other type parameter remains, and so do all type parameters of
+/// an enum with a `where` clause.
 pub fn read_generics(trees: &mut Trees, types: &Types) -> Generics {
     let mut generics = Generics::default();
     let parameters = match is_punct(trees.peek(), '<') {
@@ -41,8 +41,8 @@ pub fn read_generics(trees: &mut Trees, types: &Types) -> Generics {
 }
 
 impl Generics {
-    /// Adds a generic parameter of the enum: its argument to the arguments, and to the parameters
-    /// itself if it remains. `has_clause` is whether the enum has a `where` clause.
+    /// Adds the argument for a generic parameter of the enum, and the parameter itself if it
+    /// remains. `has_clause` is `true` if the enum has a `where` clause.
     fn add(&mut self, parameter: &[TokenTree], types: &Types, has_clause: bool) {
         let declared = parameter.split(|tree| is_punct(Some(tree), '=')).next();
         let declared = declared.unwrap_or_default();
@@ -75,7 +75,7 @@ fn is_brace(tree: &TokenTree) -> bool {
     matches!(tree, TokenTree::Group(group) if group.delimiter() == Delimiter::Brace)
 }
 
-/// Reads parameters between angle brackets, with the brackets, and returns the tokens of each
+/// Reads a list of parameters, including its angle brackets, and returns the tokens of each
 /// parameter.
 fn read_parameters(trees: &mut Trees) -> Vec<Vec<TokenTree>> {
     let (mut found, mut depth, mut after_minus) = (vec![Vec::new()], 0, false);
@@ -98,8 +98,8 @@ fn read_parameters(trees: &mut Trees) -> Vec<Vec<TokenTree>> {
     found
 }
 
-/// Returns `tokens` with all lifetimes except `'static` replaced by `'s`, including those that are
-/// left out after `&`.
+/// Returns `tokens` with all lifetimes except `'static` replaced by `'s`. Lifetimes that are
+/// omitted after `&` are added.
 pub fn with_lifetime(tokens: TokenStream) -> TokenStream {
     let mut renamed = Vec::new();
     let mut before = ' ';
@@ -129,7 +129,7 @@ fn lifetime(tree: TokenTree) -> TokenTree {
     }
 }
 
-/// Returns a token tree with the lifetimes in it replaced, if it is a group.
+/// Returns a token tree. If it is a group, the lifetimes in it are replaced.
 fn inner(tree: TokenTree) -> TokenTree {
     match &tree {
         TokenTree::Group(group) => {

@@ -1,9 +1,9 @@
-//! A cache of answers from one build to the next.
+//! A cache that stores answers from one build to the next.
 //!
 //! rustc expands a macro again in each build of the crate that uses it. An answer depends only on
 //! the enum, the shape and the library, so it is stored in the folder that Cargo provides to the
-//! macro. A file contains the question, which is compared before the answer is used. Files are
-//! written under another name and renamed, so that no partial file is ever read. If the folder
+//! macro. Each file contains its question, which is compared before the answer is used. A file is
+//! written under another name and then renamed, so that no partial file is ever read. If the folder
 //! cannot be written, nothing is stored.
 
 use crate::answer::{Answer, ShapeName};
@@ -23,11 +23,11 @@ const LIBRARY: &str = env!("LOGOS_LIBRARY");
 /// The maximum length of a file, in bytes.
 const LONGEST: usize = 8 << 20;
 
-/// The maximum length of all files together, in bytes. If another file would exceed it, all files
-/// are removed.
+/// The maximum length of all files together, in bytes. If another file would exceed this length,
+/// all files are removed.
 const MOST: u64 = 128 << 20;
 
-/// The number of bytes that a shorter file counts as, which bounds the number of files.
+/// The minimum number of bytes that a file counts as, which bounds the number of files.
 const LEAST: u64 = 32 << 10;
 
 /// The location of an answer in the cache: its question, and the path of its file.
@@ -46,7 +46,7 @@ impl Place {
         Place { asked, path }
     }
 
-    /// Returns the stored answer, or `None` if there is none that can be read.
+    /// Returns the stored answer, or `None` if it does not exist or cannot be read.
     pub fn find(&self) -> Option<Answer> {
         let bytes = fs::read(&self.path).ok()?;
         record::read(&bytes, &self.asked)
@@ -83,8 +83,8 @@ fn folder() -> PathBuf {
     Path::new(FOLDER).join("answers")
 }
 
-/// Creates the folder if it does not exist, and removes its files if they would have too many bytes
-/// with another one of `more` bytes.
+/// Creates the folder if it does not exist. Removes all its files if their total length, including
+/// another file of `more` bytes, would exceed [`MOST`].
 fn make_room(more: u64) -> io::Result<()> {
     if !folder().is_dir() {
         fs::create_dir(folder())?;

@@ -6,15 +6,15 @@
 //!
 //! Your tokens keep their spans, so errors in your callbacks and types point into the enum. A fault
 //! of the enum is an error at its tokens, with its code in brackets. Stable Rust has no spans
-//! inside a literal: for those the message contains a copy of the line with carets. It has no
-//! warnings from macros either: they are reported as uses of a deprecated constant named `logos`,
-//! and `#[allow(deprecated)]` on the enum silences them.
+//! inside literals, so the message for a fault in a literal contains a copy of the line with
+//! carets. Stable Rust has no warnings from macros either, so warnings are reported as uses of a
+//! deprecated constant named `logos`. `#[allow(deprecated)]` on the enum silences them.
 //!
 //! # Environment variables
 //!
-//! - `LOGOS_SHAPE`: the shape of the implementation: `tables`, the default, `tailcall` or
-//!   `state_machine`. With the feature `state_machine_codegen` the default is that one. Cargo
-//!   rebuilds a package if the variable has changed.
+//! - `LOGOS_SHAPE`: the shape of the implementation, which is `tables`, `tailcall` or
+//!   `state_machine`. The default is `tables`, or `state_machine` with the feature
+//!   `state_machine_codegen`. Cargo rebuilds a package if the variable has changed.
 //! - `LOGOS_MEMORY`: the maximum memory that the library uses, such as `500M` or `4G`. The
 //!   default is 1 GiB.
 
@@ -72,35 +72,37 @@ use question::Question;
 /// - `#[regex(literal)]`: the texts that a regular expression matches, in the syntax of the crate
 ///   `regex`.
 ///
-/// A variant may have several of these attributes. After the literal both take:
+/// A variant may have several of these attributes. After the literal, both attributes take:
 ///
-/// - a callback, or `callback = ..`: a path, or a closure of one parameter. It is called with the
-///   lexer at each match. A variant without a field has no value; the value of a field is the one
-///   that the callback returns, and the slice without a callback. A callback may also return
-///   `bool`, `Option` or `Result` of the value, `Skip`, `Filter`, `FilterResult` or the token.
-/// - `priority = 3`: among matches of the same length the one with the highest priority is taken.
-///   By default it grows with the minimum number of bytes that the pattern matches.
+/// - a callback, or `callback = ..`: a path, or a closure of one parameter. The callback is called
+///   with the lexer at each match. A variant without a field has no value. The value of a field is
+///   the value that the callback returns, or the slice if there is no callback. A callback may also
+///   return `bool`, `Option` or `Result` of the value, `Skip`, `Filter`, `FilterResult` or the
+///   token.
+/// - `priority = 3`: among matches of the same length, the match with the highest priority is
+///   taken. The default priority grows with the minimum number of bytes that the pattern matches.
 /// - `ignore(case)`: letters match in both cases.
 /// - `allow_greedy = true`, for a `regex`: permits a final `.*` or similar, which matches the rest
 ///   of the input or of the line.
 ///
 /// # Attributes of the enum
 ///
-/// `#[logos(..)]` takes these options. Those marked "repeatable" may occur several times.
+/// `#[logos(..)]` takes these options. Options marked "repeatable" may occur several times.
 ///
 /// - `skip literal` or `skip(literal, callback, priority = 3, ..)`, repeatable: a regular
 ///   expression whose matches are skipped.
 /// - `subpattern name = literal`, repeatable: a part of patterns, used as `(?&name)`.
-/// - `extras = Type`: the state of the lexer, `extras`, which callbacks read and change. `()` by
-///   default.
+/// - `extras = Type`: the type of the lexer's state `extras`, which callbacks read and change. The
+///   default is `()`.
 /// - `error = Type` or `error(Type, callback)`: the type of errors, which has to be
-///   `Default + Clone + PartialEq + Debug`, and the function that makes one from the lexer. `()`
-///   by default.
+///   `Default + Clone + PartialEq + Debug`, and the function that makes an error from the lexer.
+///   The default type is `()`.
 /// - `type T = Type`, repeatable: the type for a type parameter.
 /// - `utf8 = false`: inputs are `[u8]` instead of `str`.
 /// - `crate = path`: the path of the crate `logos`, if it has another name.
-/// - `export_dir = "path"`: the macro writes no file, and the path need not exist. The program
-///   `logos export` writes the state diagram there. With the feature `debug` the macro prints this.
+/// - `export_dir = "path"`: the path to which the program `logos export` writes the state diagram.
+///   The macro writes no file, and the path need not exist. With the feature `debug`, the macro
+///   prints a note about this.
 #[proc_macro_derive(Logos, attributes(logos, extras, error, end, token, regex))]
 pub fn derive(item: TokenStream) -> TokenStream {
     let question = Question::new(item.clone());
@@ -124,8 +126,8 @@ pub fn derive(item: TokenStream) -> TokenStream {
 const UNWRITTEN: &str =
     "[logos] export_dir: the macro writes no file; `logos export FILE` writes the state diagram";
 
-/// Returns the answer about an enum: the stored one if there is one, otherwise the library's, which
-/// is then stored. With the feature `debug`, prints the implementation on standard error.
+/// Returns the stored answer about an enum. If no answer is stored, calls the library and stores
+/// its answer. With the feature `debug`, prints the implementation to standard error.
 fn answer_to(question: &Question, shape: ShapeName) -> Result<Answer, Failure> {
     let place = kept::Place::new(&question.text, shape);
     let answer = match place.find() {
@@ -145,8 +147,8 @@ fn answer_to(question: &Question, shape: ShapeName) -> Result<Answer, Failure> {
     Ok(answer)
 }
 
-/// Returns the implementation of the enum, or its faults, with the warnings in both cases, and
-/// whether the enum is refused.
+/// Returns the implementation of the enum, or its faults if the enum is refused, with the warnings
+/// in both cases. The `bool` is `true` if the enum is refused.
 fn implementation(
     answer: &Answer,
     question: &Question,
@@ -166,8 +168,8 @@ fn implementation(
     Ok((tokens, false))
 }
 
-/// Returns the shape of the implementation: the one that the variable `LOGOS_SHAPE` names, or the
-/// default if it is empty or not set.
+/// Returns the shape that the variable `LOGOS_SHAPE` names, or the default shape if the variable is
+/// empty or not set.
 fn shape() -> Result<ShapeName, Failure> {
     let word = std::env::var("LOGOS_SHAPE").unwrap_or_default();
     if word.is_empty() {

@@ -28,12 +28,12 @@ struct Token {
     is_literal: bool,
 }
 
-/// The tokens that overlap a byte range: the spans of the first and the last one.
+/// The spans of the first and the last token that overlap a byte range.
 pub struct Place {
     pub first: Span,
     pub last: Span,
-    /// The byte range of a literal, if the tokens are this literal and the byte range is only a
-    /// part of it.
+    /// The byte range of a literal, if only this literal overlaps the byte range and is not
+    /// completely in it.
     pub literal: Option<Range<usize>>,
 }
 
@@ -46,14 +46,15 @@ impl Question {
         question
     }
 
-    /// Returns the token trees in a byte range, or `None` unless it begins and ends with token
-    /// trees between the same delimiters.
+    /// Returns the token trees in a byte range, or `None` if the range does not begin and end with
+    /// token trees between the same delimiters.
     pub fn cut(&self, range: &Range<usize>) -> Option<Vec<TokenTree>> {
         cut(&self.nodes, range.start, range.end)
     }
 
-    /// Returns the spans of the first and the last token of a field's type, if a variant whose name
-    /// ends at byte offset `end` has one field or more in parentheses. Otherwise returns `None`.
+    /// Returns the spans of the first and the last token of the type of a variant's field. The name
+    /// of the variant ends at the byte offset `end`. Returns `None` if there is no such variant, or
+    /// if it has no field in parentheses. If it has several fields, the spans include all types.
     pub fn field_after(&self, end: usize) -> Option<(Span, Span)> {
         let variants = self.nodes.last()?;
         let after = variants.inner.partition_point(|node| node.from < end);
@@ -72,14 +73,14 @@ impl Question {
         is_in_attribute(&self.nodes, at)
     }
 
-    /// Returns the tokens of the enum's name, or `None` if the item is no enum.
+    /// Returns the tokens of the enum's name, or `None` if the item is not an enum.
     pub fn name(&self) -> Option<Place> {
         let name = self.name_node()?;
         self.place(&(name.from..name.to))
     }
 
     /// Returns the description of the enum for a message: "the enum" with its name, or "this item"
-    /// if there is no enum.
+    /// if the item is not an enum.
     pub fn described(&self) -> String {
         match self.name_node() {
             Some(name) => format!("the enum `{}`", name.tree),
@@ -92,8 +93,8 @@ impl Question {
         self.nodes.get(start + 1)
     }
 
-    /// Returns whether an attribute `#[logos(..)]` of the enum has an argument whose first token is
-    /// the word `name`.
+    /// Returns whether an attribute `#[logos(..)]` of the enum has an argument that begins with the
+    /// identifier `name`.
     pub fn has_option(&self, name: &str) -> bool {
         self.nodes.iter().any(|node| match node.inner.as_slice() {
             [head, arguments] if is_named(head, "logos") => arguments
@@ -104,8 +105,8 @@ impl Question {
         })
     }
 
-    /// Returns the tokens that overlap a byte range or, if the range is empty, the byte at its
-    /// start. Returns `None` if no token does.
+    /// Returns the tokens that overlap a byte range, or the byte at its start if the range is
+    /// empty. Returns `None` if there are no such tokens.
     pub fn place(&self, range: &Range<usize>) -> Option<Place> {
         let from = range.start;
         let to = range.end.max(from.saturating_add(1));
@@ -166,8 +167,9 @@ impl Question {
         (inner, self.push(close, group.span_close()))
     }
 
-    /// Appends a token to the text and to the tokens, and returns the byte offset of its end. A
-    /// blank follows it, or a line end after a comma or a bracket, which keeps lines short.
+    /// Appends a token to the text and to the tokens, and returns the byte offset of its end. In
+    /// the text, the token is followed by a blank, or by a line end if it is a comma or a closing
+    /// bracket. The line ends keep lines short.
     fn push(&mut self, text: &str, span: Span) -> usize {
         let from = self.text.len();
         let to = from + text.len();
@@ -192,7 +194,7 @@ impl Question {
     }
 }
 
-/// Returns the printed form of a name, without `$`: a source cannot contain `$crate`.
+/// Returns the printed form of a name, without `$` because a source cannot contain `$crate`.
 fn printed(name: &Ident) -> String {
     name.to_string().trim_start_matches('$').into()
 }
@@ -206,8 +208,8 @@ fn delimiters(delimiter: Delimiter) -> Option<(&'static str, &'static str)> {
     }
 }
 
-/// Returns the token trees in the byte range from `from` to `to`, or `None` unless it begins and
-/// ends with token trees of one level.
+/// Returns the token trees in the byte range from `from` to `to`, or `None` if the range does not
+/// begin and end with token trees of one level.
 fn cut(nodes: &[Node], from: usize, to: usize) -> Option<Vec<TokenTree>> {
     let first = nodes.partition_point(|node| node.to <= from);
     let end = nodes.partition_point(|node| node.from < to);
@@ -232,7 +234,7 @@ fn is_parenthesized(node: &Node) -> bool {
     matches!(&node.tree, TokenTree::Group(group) if group.delimiter() == Delimiter::Parenthesis)
 }
 
-/// Returns the number of token trees before the type of a field: those of its attributes.
+/// Returns the number of token trees before the type of a field, which form its attributes.
 fn field_start(nodes: &[Node]) -> usize {
     let is_hash = |node: &Node| matches!(&node.tree, TokenTree::Punct(p) if p.as_char() == '#');
     2 * nodes.chunks(2).take_while(|pair| is_hash(&pair[0])).count()

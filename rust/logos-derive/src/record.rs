@@ -1,5 +1,5 @@
-//! Answers as bytes. Numbers have eight bytes, the lowest first; a text or a list is preceded by
-//! its length. Used by `kept`.
+//! Encodes answers as bytes. A number has eight bytes, in little-endian order. A text or a list is
+//! preceded by its length. Used by `kept`.
 
 use crate::answer::{Answer, Diagnostic, Implementation, Label, Piece};
 use std::ops::Range;
@@ -7,8 +7,7 @@ use std::ops::Range;
 /// The text at the end of a complete record.
 const END: &str = "end of the answer";
 
-/// Returns the record of an answer: the question `asked`, and the answer. Returns `None` if the
-/// enum was refused.
+/// Returns the record of the question `asked` and its answer, or `None` if the enum was refused.
 pub fn written(answer: &Answer, asked: &str) -> Option<Vec<u8>> {
     let implementation = answer.implementation.as_ref()?;
     let mut out = Vec::with_capacity(asked.len() + implementation.text.len() + (4 << 10));
@@ -23,8 +22,8 @@ pub fn written(answer: &Answer, asked: &str) -> Option<Vec<u8>> {
     Some(out)
 }
 
-/// Returns the answer of a record, or `None` unless the record is complete and has the question
-/// `asked`.
+/// Returns the answer in a record, or `None` if the record is not complete or does not have the
+/// question `asked`.
 pub fn read(bytes: &[u8], asked: &str) -> Option<Answer> {
     let mut rest = bytes;
     let rest = &mut rest;

@@ -1,5 +1,5 @@
-//! The implementation for a refused enum. It is never called, and exists so that uses of the enum
-//! as a lexer are not errors in addition to the faults.
+//! The implementation for a refused enum. It is never called. It exists so that uses of the enum as
+//! a lexer cause no errors in addition to the faults.
 
 use crate::generics::{Generics, Types, read_generics, with_lifetime};
 use crate::type_syntax::{is_path, is_type};
@@ -20,14 +20,14 @@ struct Options {
     source: TokenStream,
     extras: TokenStream,
     error: TokenStream,
-    /// The types of type parameters, by the names of these.
+    /// The types of type parameters, by the names of the parameters.
     types: Types,
 }
 
 /// The remaining token trees of an item.
 pub type Trees = Peekable<proc_macro::token_stream::IntoIter>;
 
-/// The template of the implementation, in which words that begin with `logos_` are replaced.
+/// The template of the implementation. Identifiers that begin with `logos_` are replaced.
 const TEXT: &str = "\
 impl<'s, logos_parameters> logos_path::Logos<'s> for logos_name<logos_arguments> logos_where {
     type Error = logos_error;
@@ -53,7 +53,7 @@ logos_where {
     fn error(_: &mut logos_path::Lexer<'s, Self>) -> logos_error { loop {} }
 }";
 
-/// Returns the implementation for `item`, or `None` if `item` is no enum.
+/// Returns the implementation for `item`, or `None` if `item` is not an enum.
 pub fn stub(item: TokenStream) -> Option<TokenStream> {
     let Head {
         name,
@@ -90,7 +90,7 @@ fn replace(text: TokenStream, words: &HashMap<&str, TokenStream>) -> TokenStream
 }
 
 /// Returns the name, the generic parameters and the options of an enum, or `None` if the item is
-/// none.
+/// not an enum.
 fn head(item: TokenStream) -> Option<Head> {
     let mut trees = item.into_iter().peekable();
     let tokens = |text: &str| text.parse::<TokenStream>().ok();
@@ -122,7 +122,7 @@ pub fn is_punct(tree: Option<&TokenTree>, c: char) -> bool {
 }
 
 /// Reads an attribute after its `#`, and sets the options in it if it is `#[logos(..)]`. Returns
-/// `None` if no such group follows.
+/// `None` if no attribute follows.
 fn attribute(trees: &mut Trees, options: &mut Options) -> Option<()> {
     let TokenTree::Group(attribute) = trees.next()? else {
         return None;
@@ -174,7 +174,7 @@ fn take(option: &[TokenTree], options: &mut Options) {
     }
 }
 
-/// Sets the type for a type parameter, if `value` is a type.
+/// Sets the type for the type parameter named `parameter` if `value` is a type.
 fn take_type(parameter: &str, value: &[TokenTree], options: &mut Options) {
     if is_type(value) {
         let tokens = value.iter().cloned().collect();

@@ -1,33 +1,32 @@
-//! The syntax of types of the kinds that options usually have: paths, references, tuples, slices
-//! and arrays. Used by `stub`.
+//! Recognizes the kinds of types that options usually have: paths, references, tuples, slices and
+//! arrays. Used by `stub`.
 
 use proc_macro::{Delimiter, Group, TokenTree};
 
-/// The token trees that were not taken yet. Its methods take some of them, and return whether they
-/// fit.
+/// The remaining token trees. The methods remove a certain form of token trees from the front, and
+/// return whether they found this form.
 struct Rest<'a>(&'a [TokenTree]);
 
-/// Returns whether `trees` are one type of the kinds that options usually have. Other types are not
-/// recognized.
+/// Returns whether `trees` is one type of the kinds that this module recognizes.
 pub fn is_type(trees: &[TokenTree]) -> bool {
     let mut rest = Rest(trees);
     rest.type_() && rest.0.is_empty()
 }
 
-/// Returns whether `trees` are one path.
+/// Returns whether `trees` is one path.
 pub fn is_path(trees: &[TokenTree]) -> bool {
     let mut rest = Rest(trees);
     rest.path() && rest.0.is_empty()
 }
 
 impl Rest<'_> {
-    /// Takes the next token if it is the punctuation character `c`, and returns whether it is.
+    /// Removes the next token if it is the punctuation character `c`, and returns whether it is.
     fn punct(&mut self, c: char) -> bool {
         let found = matches!(self.0, [TokenTree::Punct(punct), ..] if punct.as_char() == c);
         self.skip_if(found)
     }
 
-    /// Takes the next token if it is a word, and returns whether it is.
+    /// Removes the next token if it is an identifier or a keyword, and returns whether it is.
     fn word(&mut self) -> bool {
         let found = matches!(self.0, [TokenTree::Ident(_), ..]);
         self.skip_if(found)
@@ -70,8 +69,8 @@ impl Rest<'_> {
         }
     }
 
-    /// Takes lifetimes and types with commas between them, and the closing angle bracket. Returns
-    /// whether all of these are there.
+    /// Removes lifetimes and types that are separated by commas, and the closing angle bracket.
+    /// Returns whether the token trees have this form.
     fn arguments(&mut self) -> bool {
         while !self.punct('>') {
             let fits = if self.punct('\'') {

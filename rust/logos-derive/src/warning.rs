@@ -1,16 +1,16 @@
-//! Warnings, as uses of a deprecated constant, since stable Rust has no warnings from macros. Used
-//! by the macro.
+//! Reports warnings as uses of a deprecated constant, because stable Rust has no warnings from
+//! macros. Used by the macro.
 
 use crate::answer::Diagnostic;
 use crate::fault::text;
 use crate::question::Question;
 use proc_macro::{Delimiter, Group, Ident, Literal, Span, TokenStream, TokenTree};
 
-/// Returns the items that make the compiler warn at the first token of the warning's span, or at
-/// the name of the enum if there is no token. At the derive, which is not one of the user's tokens,
-/// the compiler would not warn.
+/// Returns items that make the compiler warn at the first token of the warning's span, or at the
+/// name of the enum if the span has no token. The compiler would not warn at the derive attribute,
+/// because it is not one of the user's tokens.
 ///
-/// Lints that the enum `item` allows are allowed for its warnings, too.
+/// Lints that the enum `item` allows are also allowed for its warnings.
 pub fn warning(found: &Diagnostic, question: &Question, item: &TokenStream) -> TokenStream {
     let note = Literal::string(&text(found, question));
     let place = question.place(&found.span).or_else(|| question.name());

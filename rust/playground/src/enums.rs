@@ -1,4 +1,4 @@
-//! The list of the enums of a source, from which the page selects one. Used by the program `enums`.
+//! Prints the enums of a source, from which the page selects an enum. Used by the program `enums`.
 
 use logos_build::logos_rust_file::{enums_in, path_of};
 use rattle_std::alloc::{AllocError, Global};

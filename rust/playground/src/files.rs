@@ -1,5 +1,5 @@
-//! The system on which the programs run in a page: two texts as files, an empty standard input, no
-//! clock and no variables.
+//! The system on which the programs run in a page. It has two texts as files, an empty standard
+//! input, no clock and no environment variables.
 
 use logos_build::logos_host::{ComparableFiles, FileError, Files, Occurrence, Reason};
 use rattle_std::alloc::{AllocError, Global};
@@ -55,7 +55,7 @@ impl ComparableFiles for Texts<'_> {
     }
 }
 
-/// A system without a clock and variables, whose standard input is empty.
+/// A system with an empty standard input, without a clock, and without environment variables.
 pub struct NoSystem;
 
 impl Clock for NoSystem {

@@ -2,8 +2,8 @@
 //! page.
 //!
 //! A slot is a list of bytes. The page fills [`ARGUMENTS`], [`SOURCE`] and [`INPUT`], calls
-//! [`run`], and reads [`OUTPUT`] and [`MESSAGES`]. The programs are those that Cargo builds: the
-//! source and the input are their only files, and their output is written to the last two slots.
+//! [`run`], and reads [`OUTPUT`] and [`MESSAGES`]. The programs are those that Cargo builds. Their
+//! only files are the source and the input, and their output is written to the last two slots.
 
 #![deny(unsafe_code)]
 #![warn(missing_docs)]
@@ -19,8 +19,7 @@ use rattle_std::string::String as Argument;
 use rattle_std::vec::Vec as List;
 use std::sync::{Mutex, MutexGuard, PoisonError};
 
-/// The slot of the arguments: the name of the program, and after it the arguments, each on its own
-/// line.
+/// The slot of the name of the program and the program's arguments, each on its own line.
 pub const ARGUMENTS: usize = 0;
 /// The slot of the bytes of the file `lexer.rs`.
 pub const SOURCE: usize = 1;
@@ -34,7 +33,7 @@ pub const MESSAGES: usize = 4;
 /// The most memory that a program may use, in bytes.
 const BUDGET: usize = 256 << 20;
 
-/// The exit status if the arguments are not UTF-8 or name no known program.
+/// The exit status if the arguments are not UTF-8 or do not name a known program.
 const MISUSE: u8 = 2;
 
 /// The exit status if memory runs out.
@@ -43,14 +42,14 @@ const FAILED: u8 = 3;
 /// The bytes of each slot.
 static SLOTS: Mutex<[Vec<u8>; 5]> = Mutex::new([const { Vec::new() }; 5]);
 
-/// Returns the slots, locked. A program that panics ends the instance, so no other one finds them
-/// locked.
+/// Locks the slots and returns them. A program that panics ends the instance, so no other program
+/// finds the slots locked.
 fn slots() -> MutexGuard<'static, [Vec<u8>; 5]> {
     SLOTS.lock().unwrap_or_else(PoisonError::into_inner)
 }
 
-/// Sets a slot to `length` zeros, and returns the address of its first byte. The page writes its
-/// bytes there.
+/// Sets a slot to `length` zero bytes, and returns the address of the first byte. The page writes
+/// the slot's bytes at this address.
 ///
 /// Returns 0, and changes nothing, if there is no such slot.
 #[allow(unsafe_code)]
@@ -93,8 +92,8 @@ pub extern "C" fn run() -> u32 {
     u32::from(status)
 }
 
-/// Runs the program that the slot [`ARGUMENTS`] names, and returns its exit status. Appends its
-/// output to `out` and `messages`.
+/// Runs the program that the slot [`ARGUMENTS`] names, and returns its exit status. Appends the
+/// program's output to `out` and `messages`.
 fn answer(slots: &[Vec<u8>; 5], out: &mut List<u8>, messages: &mut List<u8>) -> u8 {
     let Ok(text) = str::from_utf8(&slots[ARGUMENTS]) else {
         return MISUSE;

@@ -1,4 +1,4 @@
-//! Replaces Rattle's `std::alloc`: the allocator, its errors, and the budget of memory.
+//! Replaces Rattle's `std::alloc`: the allocator, its errors, and the memory budget.
 
 mod budget;
 
@@ -11,7 +11,7 @@ pub(crate) use budget::{claim, release};
 #[derive(Clone, Copy, Debug, Default, PartialEq, Eq)]
 pub struct Global;
 
-/// The error that memory was refused.
+/// The error of an allocation that failed.
 #[derive(Clone, Copy, Debug, PartialEq, Eq)]
 pub struct AllocError;
 
@@ -23,7 +23,7 @@ impl fmt::Display for AllocError {
 
 impl core::error::Error for AllocError {}
 
-/// The error that memory to store a value was refused, with the value.
+/// The error of an allocation that failed, with the value that was to be stored.
 pub struct AllocFailed<T> {
     /// The value that was not stored.
     pub value: T,
@@ -56,15 +56,16 @@ impl From<AllocError> for fmt::Error {
     }
 }
 
-/// Returns the capacity to which a block with `capacity` items of `size` bytes grows so that
-/// `additional` items fit after the first `len`, and claims the bytes that this adds.
+/// Returns the new capacity of a block that needs room for `additional` items after the first
+/// `len`, and claims the added bytes.
 ///
-/// The capacity at least doubles, so that adding items one at a time takes linear time.
+/// `capacity` is the present capacity, and `size` is the number of bytes of an item. The capacity
+/// at least doubles, so adding items one at a time takes linear time.
 ///
 /// # Errors
 ///
 /// Returns `AllocError` if the number of bytes overflows or the budget does not allow the
-/// additional bytes. No bytes are claimed then.
+/// additional bytes. In this case, no bytes are claimed.
 pub(crate) fn grown(
     len: usize,
     capacity: usize,

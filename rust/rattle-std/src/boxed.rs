@@ -1,23 +1,24 @@
-//! Replaces Rattle's `std::boxed`: values in a separate allocation, which may fail.
+//! Replaces Rattle's `std::boxed`: boxes whose allocation may fail.
 
 use crate::alloc::{AllocError, AllocFailed, Global, claim, release};
 use crate::clone::Clone;
 use core::fmt;
 use core::ops::{Deref, DerefMut};
 
-/// A value in a separate allocation.
+/// A value in an allocation of its own.
 ///
-/// Stable Rust has no fallible allocation of boxes. It has one of vectors, and a vector with one
-/// value becomes a box of an array with one value. The field is `Some` until [`Box::into_inner`].
+/// Stable Rust can allocate vectors fallibly, but not boxes. Therefore, a vector with one value is
+/// allocated, and converted to a box of an array with one value. The field is `Some` until
+/// [`Box::into_inner`] is called.
 #[derive(PartialEq, Eq, PartialOrd, Ord, Hash)]
 pub struct Box<T>(Option<std::boxed::Box<[T; 1]>>);
 
 impl<T> Box<T> {
-    /// Returns a box with `value`, which is moved to a new allocation.
+    /// Moves `value` to a new allocation, and returns a box that contains the value.
     ///
     /// # Errors
     ///
-    /// Returns `AllocFailed` with the value if memory is refused.
+    /// Returns `AllocFailed` with the value if memory runs out.
     #[inline]
     pub fn new(_alloc: Global, value: T) -> Result<Box<T>, AllocFailed<T>> {
         let size = size_of::<T>();
@@ -36,7 +37,7 @@ impl<T> Box<T> {
         }
     }
 
-    /// Returns the value in the box, whose allocation is released.
+    /// Returns the value in the box, and releases the allocation of the box.
     #[inline]
     pub fn into_inner(mut boxed: Box<T>) -> T {
         release(size_of::<T>());

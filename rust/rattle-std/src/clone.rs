@@ -1,6 +1,7 @@
-//! Replaces Rattle's `std::clone`: copies of values, whose allocation may fail.
+//! Replaces Rattle's `std::clone`: copies of values. Copying a value fails if memory runs out.
 //!
-//! A derive of `Clone` in an erased file is Rust's, and is always combined with one of `Copy`.
+//! In an erased file, `derive(Clone)` derives Rust's `Clone`, and always occurs together with
+//! `derive(Copy)`.
 
 use crate::alloc::AllocError;
 use crate::rt::HostRuntime;
@@ -12,7 +13,7 @@ pub trait Clone: Sized {
     ///
     /// # Errors
     ///
-    /// Returns `AllocError` if memory is refused.
+    /// Returns `AllocError` if memory runs out.
     fn clone(&self) -> Result<Self, AllocError>;
 }
 
@@ -48,13 +49,13 @@ impl<T: Copy> Clone for RangeInclusive<T> {
     }
 }
 
-/// An optional reference whose value can be copied. The method is named `cloned` in Rattle.
+/// An optional reference to a value that can be copied. Replaces Rattle's `cloned`.
 pub trait Clones<T> {
-    /// Returns a copy of the referenced value, or `None` if there is none.
+    /// Returns a copy of the referenced value, or `None` if there is no reference.
     ///
     /// # Errors
     ///
-    /// Returns `AllocError` if memory is refused.
+    /// Returns `AllocError` if memory runs out.
     fn clones(self) -> Result<Option<T>, AllocError>;
 }
 

@@ -1,8 +1,8 @@
 //! Replaces Rattle's `std::collections`: sets and maps whose growth may fail.
 //!
-//! Rust's `BTreeSet` has no fallible growth, and Rust's hash tables grow beyond the budget of this
-//! crate. Therefore the `BTreeSet` here is made of [`Vec`](crate::vec::Vec), and the hash tables
-//! are those of [`crate::crates::indexmap`].
+//! Rust's `BTreeSet` cannot grow fallibly, and Rust's hash tables can grow beyond the budget of
+//! this crate. Therefore, `BTreeSet` is implemented with [`Vec`](crate::vec::Vec), and `HashMap`
+//! and `HashSet` are the types of [`crate::crates::indexmap`].
 
 mod btree_set;
 

@@ -1,5 +1,5 @@
-//! Replaces the crates of the toolchain's kit that the erased crates use, each by a module of its
-//! name.
+//! Replaces the crates of the toolchain's kit that the erased crates use. Each module has the name
+//! of the crate that it replaces.
 
 pub mod indexmap;
 pub mod itoa;

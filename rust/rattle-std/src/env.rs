@@ -1,4 +1,4 @@
-//! Replaces Rattle's `std::env`: the arguments with which a program was called, and variables.
+//! Replaces Rattle's `std::env`: the arguments of the program, and environment variables.
 
 use crate::alloc::Global;
 use crate::io;
@@ -7,31 +7,31 @@ use crate::string::String;
 use crate::vec::{IntoIter, Vec};
 use std::ffi::OsStr;
 
-/// A system with the arguments with which the program was called, and with variables.
+/// A system with environment variables and the arguments of the program.
 pub trait Env {
-    /// Writes the argument with index `i` to the beginning of `buf`, and returns its length in
-    /// bytes. The argument with index 0 is the name of the program.
+    /// Writes the argument at the index `i` to the beginning of `buf`, and returns the length of
+    /// the argument in bytes. The argument at the index 0 is the name of the program.
     ///
     /// # Errors
     ///
-    /// Returns `NotPresent` if there is no such argument, and `TooLong` if the argument is longer
+    /// Returns `NotPresent` if there is no such argument, or `TooLong` if the argument is longer
     /// than `buf`.
     fn arg(&self, i: usize, buf: &mut [u8]) -> Result<usize, FillError>;
 
-    /// Writes the value of the variable `name` to the beginning of `buf`, and returns its length in
-    /// bytes.
+    /// Writes the value of the environment variable `name` to the beginning of `buf`, and returns
+    /// the length of the value in bytes.
     ///
     /// # Errors
     ///
-    /// Returns `NotPresent` if the variable is not set, and `TooLong` if its value is longer than
+    /// Returns `NotPresent` if the variable is not set, or `TooLong` if its value is longer than
     /// `buf`.
     fn var(&self, name: &str, buf: &mut [u8]) -> Result<usize, FillError>;
 }
 
-/// The reason that an argument or a value was not written.
+/// The reason why an argument or a value was not written.
 #[derive(Clone, Copy, Debug, PartialEq, Eq)]
 pub enum FillError {
-    /// There is no argument with this index, or no variable of this name.
+    /// There is no argument at this index, or no variable with this name.
     NotPresent,
     /// The argument or the value is longer than the buffer.
     TooLong,
@@ -49,7 +49,8 @@ impl Env for HostRuntime {
     }
 }
 
-/// Writes `text` to the beginning of `buf`, and returns its length in bytes.
+/// Writes `text` to the beginning of `buf`, and returns the length of `text` in bytes. Returns
+/// `TooLong` if `text` is longer than `buf`.
 fn fill(buf: &mut [u8], text: &OsStr) -> Result<usize, FillError> {
     let bytes = text.as_encoded_bytes();
     let front = buf.get_mut(..bytes.len()).ok_or(FillError::TooLong)?;
@@ -57,12 +58,12 @@ fn fill(buf: &mut [u8], text: &OsStr) -> Result<usize, FillError> {
     Ok(bytes.len())
 }
 
-/// Returns an iterator over the arguments with which the program was called, its name first.
+/// Returns an iterator over the arguments of the program, beginning with the name of the program.
 ///
 /// # Errors
 ///
-/// Returns an error of the kind `InvalidData` if an argument is not UTF-8, and one of the kind
-/// `OutOfMemory` if memory is refused.
+/// Returns an error of the kind `InvalidData` if an argument is not UTF-8, or an error of the kind
+/// `OutOfMemory` if memory runs out.
 pub fn args<R: Env>(_rt: &R) -> io::Result<IntoIter<String>> {
     let mut arguments = Vec::new(Global);
     for argument in std::env::args_os() {

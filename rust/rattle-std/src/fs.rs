@@ -1,7 +1,7 @@
-//! Replaces Rattle's `std::fs`: files, folders and links, by their paths.
+//! Replaces Rattle's `std::fs`: files, folders and links, identified by their paths.
 //!
-//! Paths are texts in the form of Unix. On other systems some paths of Linux that the crates use
-//! have their meaning too: `/dev/stdin` is standard input, and `/proc/self` is a link to the
+//! Paths are texts in the form of Unix. Some of Linux's paths that the crates use have their
+//! meaning on other systems, too: `/dev/stdin` is standard input, and `/proc/self` is a link to the
 //! process ID.
 
 mod metadata;
@@ -15,34 +15,34 @@ use std::sync::OnceLock;
 
 pub use metadata::{Metadata, MetadataExt, Permissions, PermissionsExt, metadata, set_permissions};
 
-/// The path by which the crates open standard input.
+/// The path that the crates open to read standard input.
 const STANDARD_INPUT: &str = "/dev/stdin";
 
 /// The path of the link from which the crates read the process ID.
 const OWN_PROCESS: &str = "/proc/self";
 
-/// The path from which the crates read the file of the program itself.
+/// The path at which the crates read the file of the program itself.
 const PROGRAM: &str = "/proc/self/exe";
 
-/// The bytes that are read instead of the file of the program itself, once they are set.
+/// The bytes that are read instead of the file of the program itself, if they are set.
 static PROGRAM_BYTES: OnceLock<&'static [u8]> = OnceLock::new();
 
-/// Sets the bytes that are read instead of the file of the program itself, at `/proc/self/exe`.
+/// Sets the bytes that are read at `/proc/self/exe` instead of the file of the program itself.
 ///
-/// The programs search these bytes for the commit from which they were built. They call this
-/// function first. Only the first call has an effect.
+/// A program searches these bytes for the commit from which it was built, and calls this function
+/// first. Only the first call has an effect.
 pub fn set_program(bytes: &'static [u8]) {
     let _ = PROGRAM_BYTES.set(bytes);
 }
 
 /// A system with files.
 pub trait Files {
-    /// Sets the owner and the group of the file at `path`, each if it is not `None`. Does nothing
-    /// on a system without owners.
+    /// Sets the owner of the file at `path` if `user` is not `None`, and the group of the file if
+    /// `group` is not `None`. Does nothing on a system without owners.
     ///
     /// # Errors
     ///
-    /// Returns the error of the system.
+    /// Returns the error that the system reports.
     fn chown(&self, path: &str, user: Option<u32>, group: Option<u32>) -> io::Result<()>;
 }
 
@@ -62,12 +62,12 @@ impl Files for HostRuntime {
 pub struct PathBuf(String);
 
 impl PathBuf {
-    /// Returns the text of `path`, with `/` between its names.
+    /// Returns the text of `path`, with `/` as the separator of its names.
     ///
     /// # Errors
     ///
-    /// Returns an error of the kind `InvalidData` if the path is not UTF-8, or one of the kind
-    /// `OutOfMemory` if memory is refused.
+    /// Returns an error of the kind `InvalidData` if the path is not UTF-8, or an error of the kind
+    /// `OutOfMemory` if memory runs out.
     fn of(path: &std::path::Path) -> io::Result<PathBuf> {
         let text = path.to_str().ok_or(ErrorKind::InvalidData)?;
         let mut made = String::new(Global);
@@ -89,7 +89,8 @@ impl PathBuf {
 ///
 /// # Errors
 ///
-/// Returns the error of the system, or one of the kind `OutOfMemory` if memory is refused.
+/// Returns the error that the system reports, or an error of the kind `OutOfMemory` if memory runs
+/// out.
 pub fn read<R: Files>(rt: &R, path: &str) -> io::Result<Vec<u8>> {
     let mut bytes = Vec::new(Global);
     let mut file = File::open(rt, path)?;
@@ -103,17 +104,19 @@ pub fn read<R: Files>(rt: &R, path: &str) -> io::Result<Vec<u8>> {
 ///
 /// # Errors
 ///
-/// Returns the error of the system, one of the kind `InvalidData` if the text is not UTF-8, or one
-/// of the kind `OutOfMemory` if memory is refused.
+/// Returns the error that the system reports, an error of the kind `InvalidData` if the text is not
+/// UTF-8, or an error of the kind `OutOfMemory` if memory runs out.
 pub fn read_to_string<R: Files>(rt: &R, path: &str) -> io::Result<String> {
     String::from_utf8(read(rt, path)?).map_err(|_| Error::from(ErrorKind::InvalidData))
 }
 
-/// Writes `bytes` to the file at `path`: creates it, or replaces its contents.
+/// Writes `bytes` to the file at `path`. Creates the file if it does not exist, and replaces its
+/// contents otherwise.
 ///
 /// # Errors
 ///
-/// Returns the error of the system. The file may have been created, or written in part, then.
+/// Returns the error that the system reports. In this case, the file may have been created or
+/// partly written.
 pub fn write<R: Files>(_rt: &R, path: &str, bytes: &[u8]) -> io::Result<()> {
     Ok(std::fs::write(path, bytes)?)
 }
@@ -122,8 +125,8 @@ pub fn write<R: Files>(_rt: &R, path: &str, bytes: &[u8]) -> io::Result<()> {
 ///
 /// # Errors
 ///
-/// Returns the error of the system, one of the kind `InvalidData` if the target is not UTF-8, or
-/// one of the kind `OutOfMemory` if memory is refused.
+/// Returns the error that the system reports, an error of the kind `InvalidData` if the target is
+/// not UTF-8, or an error of the kind `OutOfMemory` if memory runs out.
 pub fn read_link<R: Files>(_rt: &R, path: &str) -> io::Result<PathBuf> {
     if cfg!(not(target_os = "linux")) && path == OWN_PROCESS {
         let number = std::process::id();
@@ -136,17 +139,17 @@ pub fn read_link<R: Files>(_rt: &R, path: &str) -> io::Result<PathBuf> {
 ///
 /// # Errors
 ///
-/// Returns the error of the system, one of the kind `InvalidData` if the absolute path is not
-/// UTF-8, or one of the kind `OutOfMemory` if memory is refused.
+/// Returns the error that the system reports, an error of the kind `InvalidData` if the absolute
+/// path is not UTF-8, or an error of the kind `OutOfMemory` if memory runs out.
 pub fn canonicalize<R: Files>(_rt: &R, path: &str) -> io::Result<PathBuf> {
     PathBuf::of(&std::fs::canonicalize(path)?)
 }
 
-/// Renames the file at the path `from` to the path `to`, and replaces a file that is there.
+/// Renames the file at the path `from` to the path `to`. Replaces an existing file at `to`.
 ///
 /// # Errors
 ///
-/// Returns the error of the system.
+/// Returns the error that the system reports.
 pub fn rename<R: Files>(_rt: &R, from: &str, to: &str) -> io::Result<()> {
     Ok(std::fs::rename(from, to)?)
 }
@@ -155,16 +158,17 @@ pub fn rename<R: Files>(_rt: &R, from: &str, to: &str) -> io::Result<()> {
 ///
 /// # Errors
 ///
-/// Returns the error of the system.
+/// Returns the error that the system reports.
 pub fn remove_file<R: Files>(_rt: &R, path: &str) -> io::Result<()> {
     Ok(std::fs::remove_file(path)?)
 }
 
-/// Creates the folder at `path` and the missing folders that contain it. Does nothing if it exists.
+/// Creates the folder at `path` and all missing folders that contain it. Does nothing if the folder
+/// exists.
 ///
 /// # Errors
 ///
-/// Returns the error of the system.
+/// Returns the error that the system reports.
 pub fn create_dir_all<R: Files>(_rt: &R, path: &str) -> io::Result<()> {
     // Rust creates nothing for a path that ends with `.`, so its last components are taken.
     let folder = std::path::Path::new(path).components();
@@ -175,7 +179,7 @@ pub fn create_dir_all<R: Files>(_rt: &R, path: &str) -> io::Result<()> {
 pub struct DirEntry(String);
 
 impl DirEntry {
-    /// Returns the name of the entry, without its folder.
+    /// Returns the name of the entry, without the path of its folder.
     pub fn file_name(&self) -> &str {
         &self.0
     }
@@ -185,9 +189,9 @@ impl DirEntry {
 ///
 /// # Errors
 ///
-/// Returns the error of the system. An entry may be an error too: the error of the system, one of
-/// the kind `InvalidData` if its name is not UTF-8, or one of the kind `OutOfMemory` if memory is
-/// refused.
+/// Returns the error that the system reports. Each item of the iterator may be an error as well:
+/// the error that the system reports, an error of the kind `InvalidData` if the name of the entry
+/// is not UTF-8, or an error of the kind `OutOfMemory` if memory runs out.
 pub fn read_dir<R: Files>(
     _rt: &R,
     path: &str,
@@ -203,7 +207,7 @@ pub fn read_dir<R: Files>(
 ///
 /// # Errors
 ///
-/// Returns the error of the system.
+/// Returns the error that the system reports.
 pub fn open<R: Files>(rt: &R, path: &str) -> io::Result<File> {
     File::open(rt, path)
 }
@@ -222,7 +226,7 @@ impl File {
     ///
     /// # Errors
     ///
-    /// Returns the error of the system.
+    /// Returns the error that the system reports.
     pub fn open<R: Files>(_rt: &R, path: &str) -> io::Result<File> {
         if path == PROGRAM
             && let Some(bytes) = PROGRAM_BYTES.get()
@@ -241,13 +245,14 @@ impl File {
     ///
     /// # Errors
     ///
-    /// Returns the error of the system, which is of the kind `AlreadyExists` if the file exists.
+    /// Returns the error that the system reports. The error has the kind `AlreadyExists` if the
+    /// file exists.
     pub fn create_new<R: Files>(_rt: &R, path: &str) -> io::Result<File> {
         Ok(File(Opened::File(std::fs::File::create_new(path)?)))
     }
 
-    /// Returns the length in bytes that the system reports for the file, but at most 64 MiB.
-    /// Returns 0 if there is no such length.
+    /// Returns the length of the file in bytes as the system reports it, but at most 64 MiB.
+    /// Returns 0 if the system reports no length.
     fn len_hint(&self) -> usize {
         const MOST: u64 = 1 << 26;
         match &self.0 {

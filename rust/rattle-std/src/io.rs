@@ -13,7 +13,7 @@ pub use buffered::BufWriter;
 pub use error::{Error, ErrorKind, Result};
 pub use standard::{Input, IsTerminal, Print, Stderr, Stdin, Stdout};
 
-/// The number of bytes that are reserved for a vector without capacity.
+/// The minimum number of bytes by which a vector without free capacity is lengthened.
 const FIRST_BLOCK: usize = 8192;
 
 /// The maximum number of bytes by which a vector is lengthened at once.
@@ -21,20 +21,20 @@ const LARGEST_BLOCK: usize = 1 << 20;
 
 /// A source of bytes.
 pub trait Read {
-    /// Reads bytes into the beginning of `buf`, and returns their number. If it is 0 and `buf` is
-    /// not empty, no bytes are left.
+    /// Reads bytes into the beginning of `buf`, and returns the number of bytes read. No bytes are
+    /// left if this number is 0 and `buf` is not empty.
     ///
     /// # Errors
     ///
-    /// Returns the error of the system. No bytes were read then.
+    /// Returns the error that the system reports. In this case, no bytes were read.
     fn read(&mut self, buf: &mut [u8]) -> Result<usize>;
 
-    /// Appends all remaining bytes to `buf`, and returns their number.
+    /// Appends all remaining bytes to `buf`, and returns the number of bytes appended.
     ///
     /// # Errors
     ///
-    /// Returns the error of the system, or one of the kind `OutOfMemory` if memory is refused. The
-    /// bytes that were read before have been appended then.
+    /// Returns the error that the system reports, or an error of the kind `OutOfMemory` if memory
+    /// runs out. In this case, the bytes that were read before the error have been appended.
     fn read_to_end(&mut self, buf: &mut Vec<u8>) -> Result<usize> {
         let start = buf.len();
         let mut end = start;
@@ -55,7 +55,7 @@ pub trait Read {
         done
     }
 
-    /// Returns a reader of the next bytes of this one, at most `limit`.
+    /// Returns a reader of at most the next `limit` bytes of this reader.
     fn take(self, limit: u64) -> Take<Self>
     where
         Self: Sized,
@@ -64,9 +64,11 @@ pub trait Read {
     }
 }
 
-/// Appends zeros to `buf`, which the bytes that are read replace. The number of zeros is the free
-/// capacity, or without one the length of `buf`, but at least [`FIRST_BLOCK`]; in both cases at
-/// most [`LARGEST_BLOCK`].
+/// Appends zeros to `buf`, to be replaced with the bytes that are read.
+///
+/// The number of zeros is the free capacity of `buf`. If there is no free capacity, the number is
+/// the length of `buf`, but at least [`FIRST_BLOCK`]. In both cases, the number is at most
+/// [`LARGEST_BLOCK`].
 fn lengthen(buf: &mut Vec<u8>) -> core::result::Result<(), AllocError> {
     let len = buf.len();
     let room = match buf.capacity() - len {
@@ -113,8 +115,8 @@ impl<R: Read> Read for Take<R> {
 ///
 /// # Errors
 ///
-/// Returns the error of the system, one of the kind `InvalidData` if the text is not UTF-8, or one
-/// of the kind `OutOfMemory` if memory is refused.
+/// Returns the error that the system reports, an error of the kind `InvalidData` if the text is not
+/// UTF-8, or an error of the kind `OutOfMemory` if memory runs out.
 pub fn read_to_string<R: Read>(alloc: Global, mut reader: R) -> Result<String> {
     let mut bytes = Vec::new(alloc);
     reader.read_to_end(&mut bytes)?;
@@ -123,26 +125,26 @@ pub fn read_to_string<R: Read>(alloc: Global, mut reader: R) -> Result<String> {
 
 /// A destination of bytes.
 pub trait Write {
-    /// Writes bytes from the beginning of `buf`, and returns their number.
+    /// Writes bytes from the beginning of `buf`, and returns the number of bytes written.
     ///
     /// # Errors
     ///
-    /// Returns the error of the system. No bytes were written then.
+    /// Returns the error that the system reports. In this case, no bytes were written.
     fn write(&mut self, buf: &[u8]) -> Result<usize>;
 
     /// Writes the bytes that are buffered, if any.
     ///
     /// # Errors
     ///
-    /// Returns the error of the system.
+    /// Returns the error that the system reports.
     fn flush(&mut self) -> Result<()>;
 
     /// Writes all bytes of `buf`.
     ///
     /// # Errors
     ///
-    /// Returns the error of the system, or one of the kind `WriteZero` if a call of `write` writes
-    /// no bytes. A part of the bytes may have been written then.
+    /// Returns the error that the system reports, or an error of the kind `WriteZero` if a call of
+    /// `write` writes no bytes. In this case, a part of the bytes may have been written.
     fn write_all(&mut self, mut buf: &[u8]) -> Result<()> {
         while !buf.is_empty() {
             match self.write(buf) {
@@ -159,8 +161,8 @@ pub trait Write {
     ///
     /// # Errors
     ///
-    /// Returns the error of [`Write::write_all`], or one of the kind `Other` if formatting fails. A
-    /// part of the text may have been written then.
+    /// Returns the error of [`Write::write_all`], or an error of the kind `Other` if formatting
+    /// fails. In this case, a part of the text may have been written.
     fn write_fmt(&mut self, text: fmt::Arguments<'_>) -> Result<()> {
         let mut pieces = Pieces {
             to: self,
@@ -173,8 +175,8 @@ pub trait Write {
     }
 }
 
-/// A writer of formatted text, which comes in pieces, to the writer `to`, and the error of that
-/// writer if there was one.
+/// A writer that passes the pieces of a formatted text to the writer `to`. `error` is the error of
+/// `to`, if there was one.
 struct Pieces<'w, W: ?Sized> {
     to: &'w mut W,
     error: Option<Error>,

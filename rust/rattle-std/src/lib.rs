@@ -1,11 +1,12 @@
-//! The part of Rattle's standard library that the erased crates use, over Rust's.
+//! The part of Rattle's standard library that the erased crates use, implemented with Rust's
+//! standard library.
 //!
 //! Rattle is Rust with contracts. Its standard library differs from Rust's in allocation: a
 //! function that allocates takes an allocator and returns a `Result`. Erased crates name this crate
 //! `std`, and each of their files imports the [`prelude`].
 //!
-//! Modules that are equal in Rust are re-exported. The docs of each other module name the module of
-//! Rattle that it replaces.
+//! Modules that Rattle and Rust have in common are re-exported. The documentation of each other
+//! module names the module of Rattle that it replaces.
 
 #![deny(unsafe_code)]
 #![warn(missing_docs)]

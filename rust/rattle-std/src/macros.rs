@@ -1,7 +1,7 @@
 //! The macros of Rattle's prelude. Used by erased files.
 
-/// Formats into a new [`String`](crate::string::String): `format!(in alloc; "..", ..)`. The value
-/// is a `Result`, which is `AllocError` if memory is refused.
+/// Formats a text into a new [`String`](crate::string::String): `format!(in alloc; "..", ..)`. The
+/// value is a `Result` with the error `AllocError` if memory runs out.
 #[macro_export]
 macro_rules! format {
     (in $alloc:expr; $($part:tt)*) => {
@@ -12,9 +12,9 @@ macro_rules! format {
     };
 }
 
-/// Makes a [`Vec`](crate::vec::Vec) of values, `vec![in alloc; a, b]`, or of copies of one,
-/// `vec![in alloc; value; count]`. The value is a `Result`, which is `AllocError` if memory is
-/// refused.
+/// Makes a [`Vec`](crate::vec::Vec) of the given values, `vec![in alloc; a, b]`, or of copies of
+/// one value, `vec![in alloc; value; count]`. The value of the macro is a `Result` with the error
+/// `AllocError` if memory runs out.
 #[macro_export]
 macro_rules! vec {
     (in $alloc:expr; $value:expr; $count:expr) => {
@@ -26,7 +26,7 @@ macro_rules! vec {
 }
 
 /// Prints a line to the standard output of the system `rt`: `println!(rt; "..", ..)`. The value is
-/// a `Result` with the error of the system.
+/// a `Result` with the error that the system reports.
 #[macro_export]
 macro_rules! println {
     ($rt:expr; $($part:tt)*) => {
@@ -34,8 +34,8 @@ macro_rules! println {
     };
 }
 
-/// Prints to the standard output of the system `rt`: `print!(rt; "..", ..)`. The value is a
-/// `Result` with the error of the system.
+/// Prints a text to the standard output of the system `rt`: `print!(rt; "..", ..)`. The value is a
+/// `Result` with the error that the system reports.
 #[macro_export]
 macro_rules! print {
     ($rt:expr; $($part:tt)*) => {
@@ -47,7 +47,7 @@ macro_rules! print {
 }
 
 /// Prints a line to the standard error of the system `rt`: `eprintln!(rt; "..", ..)`. The value is
-/// a `Result` with the error of the system.
+/// a `Result` with the error that the system reports.
 #[macro_export]
 macro_rules! eprintln {
     ($rt:expr; $($part:tt)*) => {
@@ -55,8 +55,8 @@ macro_rules! eprintln {
     };
 }
 
-/// Prints to the standard error of the system `rt`: `eprint!(rt; "..", ..)`. The value is a
-/// `Result` with the error of the system.
+/// Prints a text to the standard error of the system `rt`: `eprint!(rt; "..", ..)`. The value is a
+/// `Result` with the error that the system reports.
 #[macro_export]
 macro_rules! eprint {
     ($rt:expr; $($part:tt)*) => {

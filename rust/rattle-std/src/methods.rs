@@ -1,5 +1,5 @@
-//! The methods of Rust's own types that take an allocator in Rattle. In erased files they have
-//! another name of the same width. Used by erased files, and by the macros `format` and `vec`.
+//! The methods of Rust's own types that take an allocator in Rattle. In erased files, each method
+//! has another name of equal length. Used by erased files, and by the macros `format` and `vec`.
 
 use crate::alloc::{AllocError, Global};
 use crate::string::String;
@@ -12,7 +12,8 @@ pub trait ListIn: Iterator + Sized {
     ///
     /// # Errors
     ///
-    /// Returns `AllocError` if memory is refused. The items that were taken are lost then.
+    /// Returns `AllocError` if memory runs out. In this case, the items that were taken from the
+    /// iterator are lost.
     fn list_in<C: FromItems<Self::Item>>(self, alloc: Global) -> Result<C, AllocError> {
         C::from_items(alloc, self)
     }
@@ -22,11 +23,11 @@ impl<I: Iterator> ListIn for I {}
 
 /// A collection that is made from the items of an iterator.
 pub trait FromItems<T>: Sized {
-    /// Returns the collection of all of `items`.
+    /// Returns a collection of all items of `items`.
     ///
     /// # Errors
     ///
-    /// Returns `AllocError` if memory is refused.
+    /// Returns `AllocError` if memory runs out.
     fn from_items<I: Iterator<Item = T>>(alloc: Global, items: I) -> Result<Self, AllocError>;
 }
 
@@ -54,7 +55,7 @@ pub trait VecIn<T> {
     ///
     /// # Errors
     ///
-    /// Returns `AllocError` if memory is refused.
+    /// Returns `AllocError` if memory runs out.
     fn vec_in(&self, alloc: Global) -> Result<Vec<T>, AllocError>;
 }
 
@@ -70,7 +71,7 @@ pub trait StringIn: fmt::Display {
     ///
     /// # Errors
     ///
-    /// Returns `AllocError` if memory is refused.
+    /// Returns `AllocError` if memory runs out.
     fn string_in(&self, alloc: Global) -> Result<String, AllocError> {
         formatted(alloc, format_args!("{self}"))
     }
@@ -84,7 +85,7 @@ pub trait AsciiLowercaseIn {
     ///
     /// # Errors
     ///
-    /// Returns `AllocError` if memory is refused.
+    /// Returns `AllocError` if memory runs out.
     fn ascii_lowercase_in(&self, alloc: Global) -> Result<String, AllocError>;
 }
 
@@ -103,7 +104,7 @@ impl AsciiLowercaseIn for str {
 ///
 /// # Errors
 ///
-/// Returns `AllocError` if memory is refused.
+/// Returns `AllocError` if memory runs out.
 pub fn formatted(alloc: Global, text: fmt::Arguments<'_>) -> Result<String, AllocError> {
     let mut made = String::new(alloc);
     made.write_fmt(text)?;
@@ -114,7 +115,7 @@ pub fn formatted(alloc: Global, text: fmt::Arguments<'_>) -> Result<String, Allo
 ///
 /// # Errors
 ///
-/// Returns `AllocError` if memory is refused.
+/// Returns `AllocError` if memory runs out.
 pub fn repeated<T: Clone>(alloc: Global, value: T, count: usize) -> Result<Vec<T>, AllocError> {
     let mut values = Vec::new(alloc);
     values.resize(count, value)?;
@@ -125,7 +126,7 @@ pub fn repeated<T: Clone>(alloc: Global, value: T, count: usize) -> Result<Vec<T
 ///
 /// # Errors
 ///
-/// Returns `AllocError` if memory is refused.
+/// Returns `AllocError` if memory runs out.
 pub fn listed<T, const N: usize>(alloc: Global, values: [T; N]) -> Result<Vec<T>, AllocError> {
     let mut list = Vec::new(alloc);
     list.extend(values)?;

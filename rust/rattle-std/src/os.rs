@@ -1,7 +1,7 @@
-//! Replaces Rattle's `std::os`: functions of Unix.
+//! Replaces Rattle's `std::os`: traits for the files of Unix.
 
-/// Rattle's traits for Unix. On other systems their values have no meaning, and setting them has no
-/// effect.
+/// Rattle's traits for Unix. On other systems, only the number of a file has a meaning, and setting
+/// a mode has no effect.
 pub mod unix {
     /// The traits for the mode and the identity of a file.
     pub mod fs {

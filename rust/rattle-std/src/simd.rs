@@ -1,14 +1,15 @@
-//! Replaces Rattle's `std::simd`, which is Rust's portable module of this name: vectors of numbers.
+//! Replaces Rattle's `std::simd`, which corresponds to Rust's portable module `std::simd`: vectors
+//! of numbers.
 //!
-//! A vector is an array. Operations for which loops would be slow call functions of `blocks` for 16
-//! bytes at a time. These use instructions of x86-64 and of 64-bit ARM, and loops on other
-//! machines.
+//! A vector is an array. Operations that would be slow as loops call functions of `blocks` for 16
+//! bytes at a time. These functions use instructions of x86-64 and of 64-bit ARM, and loops on
+//! other machines.
 
 mod blocks;
 
 use core::ops::{BitAnd, BitOr, Shr};
 
-/// The types of vectors, which erased files import.
+/// The types of vectors that erased files import.
 pub mod prelude {
     pub use super::{u8x16, u8x32, u8x64, u32x16};
 }
@@ -33,12 +34,14 @@ pub type u8x64 = Simd<u8, 64>;
 #[allow(non_camel_case_types)]
 pub type u32x16 = Simd<u32, 16>;
 
-/// The set of the entries of two vectors, at most 64, for which a comparison holds.
+/// The set of the entries for which a comparison of two vectors holds. The vectors have at most 64
+/// entries.
 #[derive(Clone, Copy, Debug, PartialEq, Eq)]
 pub struct Mask<const N: usize>(u64);
 
 impl<const N: usize> Mask<N> {
-    /// Returns the number in which bit `k` is set if the comparison holds for entry `k`.
+    /// Returns the number whose bit `k` is set if the comparison holds for the entry at the index
+    /// `k`.
     #[inline(always)]
     pub fn to_bitmask(self) -> u64 {
         self.0
@@ -65,7 +68,7 @@ impl<T: Copy, const N: usize> Simd<T, N> {
         }
     }
 
-    /// Returns the vector whose `N` numbers are all `value`.
+    /// Returns the vector of `N` numbers that all equal `value`.
     #[inline(always)]
     pub fn splat(value: T) -> Self {
         Simd([value; N])
@@ -99,9 +102,9 @@ impl<T: Copy, const N: usize> Simd<T, N> {
     }
 }
 
-/// Returns whether the 16, 32 or 64 `indices` begin with `first`, and each other index is `step`
-/// above its predecessor. The compiler knows the result if it knows the indices, but not through
-/// nested loops.
+/// Returns whether the 16, 32 or 64 `indices` begin with `first`, and each following index is the
+/// preceding index plus `step`. The compiler can evaluate this function for constant indices, but
+/// could not evaluate nested loops.
 #[inline(always)]
 fn have_steps<const M: usize>(indices: &[usize; M], first: usize, step: usize) -> bool {
     const { assert!(M == 16 || M == 32 || M == 64) };
@@ -111,7 +114,8 @@ fn have_steps<const M: usize>(indices: &[usize; M], first: usize, step: usize) -
         && (M < 64 || have_16_steps(indices, 48, first, step))
 }
 
-/// Returns whether each of the 16 indices from `at` on is `first` plus `step` times its own index.
+/// Returns whether each of the 16 elements of `indices` from the index `at` on equals `first` plus
+/// `step` times the index of the element.
 #[inline(always)]
 fn have_16_steps(indices: &[usize], at: usize, first: usize, step: usize) -> bool {
     let mut have = true;
@@ -131,8 +135,8 @@ impl<const N: usize> Simd<u8, N> {
         }
     }
 
-    /// Returns the vector of the results of `f` for the blocks of 16 bytes of this vector and
-    /// `other`.
+    /// Applies `f` to each block of 16 bytes of this vector and the block of `other` at the same
+    /// index. Returns the vector of the results.
     #[inline(always)]
     fn by_blocks(self, other: Self, f: impl Fn([u8; 16], [u8; 16]) -> [u8; 16]) -> Self {
         let mut made = [0; N];
@@ -159,15 +163,15 @@ impl<const N: usize> Simd<u8, N> {
         Mask(self.simd_eq(other).0 ^ (u64::MAX >> (64 - N)))
     }
 
-    /// Returns the vector of the bytes at `indices` in this one. The vectors have 16 bytes, and the
-    /// indices must be below 16.
+    /// Returns the vector of the bytes at `indices` in this vector. Both vectors have 16 bytes, and
+    /// the indices must be below 16.
     #[inline(always)]
     pub fn swizzle_dyn_within<const M: usize>(self, indices: Self) -> Self {
         const { assert!(N == 16 && M == 16) };
         self.by_blocks(indices, blocks::at)
     }
 
-    /// Returns the vector of the bytes at `indices` in this one.
+    /// Returns the vector of the bytes at `indices` in this vector.
     ///
     /// # Panics
     ///

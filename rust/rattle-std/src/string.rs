@@ -8,12 +8,12 @@ use core::fmt;
 use core::ops::Deref;
 use core::str::Utf8Error;
 
-/// A text in UTF-8, whose growth may fail, and is limited by the budget of memory.
+/// A text in UTF-8. Its growth may fail, and is limited by the memory budget.
 #[derive(PartialEq, Eq, PartialOrd, Ord, Hash)]
 pub struct String(std::string::String);
 
 impl String {
-    /// Returns an empty text, without an allocation.
+    /// Returns an empty text without allocating.
     #[inline]
     pub fn new(_alloc: Global) -> String {
         String(std::string::String::new())
@@ -23,7 +23,7 @@ impl String {
     ///
     /// # Errors
     ///
-    /// Returns `AllocError` if memory is refused.
+    /// Returns `AllocError` if memory runs out.
     #[allow(clippy::should_implement_trait)]
     pub fn from_str(alloc: Global, s: &str) -> Result<String, AllocError> {
         let mut copy = String::new(alloc);
@@ -31,11 +31,11 @@ impl String {
         Ok(copy)
     }
 
-    /// Returns the text with these bytes, in the same allocation.
+    /// Returns the text that consists of `bytes`, without copying the bytes.
     ///
     /// # Errors
     ///
-    /// Returns `FromUtf8Error`, which contains the bytes, if they are not UTF-8.
+    /// Returns `FromUtf8Error` with the bytes if they are not UTF-8.
     pub fn from_utf8(mut bytes: Vec<u8>) -> Result<String, FromUtf8Error> {
         match std::string::String::from_utf8(bytes.take_claimed()) {
             Ok(text) => Ok(String(text)),
@@ -46,7 +46,7 @@ impl String {
         }
     }
 
-    /// Makes room for `additional` bytes after those of the text, in a new allocation.
+    /// Makes room for `additional` more bytes in a new allocation.
     #[cold]
     fn grow(&mut self, additional: usize) -> Result<(), AllocError> {
         let before = self.0.capacity();
@@ -56,11 +56,11 @@ impl String {
         done.map_err(|_| AllocError)
     }
 
-    /// Makes room for `additional` bytes after those of the text.
+    /// Makes room for `additional` more bytes.
     ///
     /// # Errors
     ///
-    /// Returns `AllocError` if memory is refused.
+    /// Returns `AllocError` if memory runs out.
     #[inline]
     pub fn reserve(&mut self, additional: usize) -> Result<(), AllocError> {
         if additional <= self.0.capacity() - self.0.len() {
@@ -78,7 +78,7 @@ impl String {
     ///
     /// # Errors
     ///
-    /// Returns `AllocError` if memory is refused. The text is unchanged then.
+    /// Returns `AllocError` if memory runs out. In this case, the text is unchanged.
     #[inline]
     pub fn push_str(&mut self, string: &str) -> Result<(), AllocError> {
         self.reserve(string.len())?;
@@ -90,7 +90,7 @@ impl String {
     ///
     /// # Errors
     ///
-    /// Returns `AllocError` if memory is refused. The text is unchanged then.
+    /// Returns `AllocError` if memory runs out. In this case, the text is unchanged.
     #[inline]
     pub fn push(&mut self, ch: char) -> Result<(), AllocError> {
         self.reserve(ch.len_utf8())?;
@@ -103,7 +103,7 @@ impl String {
         self.0.pop()
     }
 
-    /// Removes all except the first `n` bytes. Does nothing if there are not more.
+    /// Removes all bytes except the first `n`. Does nothing if the text has at most `n` bytes.
     ///
     /// # Panics
     ///
@@ -123,7 +123,7 @@ impl String {
         &self.0
     }
 
-    /// Returns the bytes of the text, in the same allocation.
+    /// Returns the bytes of the text, without copying the bytes.
     pub fn into_bytes(mut self) -> Vec<u8> {
         Vec::from_claimed(core::mem::take(&mut self.0).into_bytes())
     }
@@ -132,8 +132,8 @@ impl String {
     ///
     /// # Errors
     ///
-    /// Returns `AllocError` if memory is refused or formatting fails. A part of the text may have
-    /// been appended then.
+    /// Returns `AllocError` if memory runs out or formatting fails. In this case, a part of the
+    /// text may have been appended.
     pub fn write_fmt(&mut self, text: fmt::Arguments<'_>) -> Result<(), AllocError> {
         fmt::Write::write_fmt(self, text).map_err(|_| AllocError)
     }
@@ -185,7 +185,7 @@ impl Clone for String {
     }
 }
 
-/// The error that bytes are not UTF-8, with the bytes.
+/// The error for bytes that are not UTF-8, with the bytes.
 #[derive(Debug)]
 pub struct FromUtf8Error {
     bytes: Vec<u8>,
@@ -193,7 +193,7 @@ pub struct FromUtf8Error {
 }
 
 impl FromUtf8Error {
-    /// Returns Rust's own error, which has the offset of the first invalid byte.
+    /// Returns Rust's own error, which contains the offset of the first invalid byte.
     pub fn utf8_error(&self) -> Utf8Error {
         self.error
     }

@@ -7,7 +7,7 @@ pub use core::time::Duration;
 
 /// A system with a clock.
 pub trait Clock {
-    /// Returns the time since a point that is fixed while the program runs.
+    /// Returns the time since a point in time that does not change while the program runs.
     ///
     /// # Errors
     ///
@@ -23,7 +23,7 @@ impl Clock for HostRuntime {
     }
 }
 
-/// A point in time, as the time of a [`Clock`].
+/// A point in time, as measured by a [`Clock`].
 #[derive(Clone, Copy, Debug, PartialEq, Eq, PartialOrd, Ord)]
 pub struct Instant(Duration);
 

@@ -7,12 +7,12 @@ use core::ops::RangeBounds;
 
 pub use std::vec::IntoIter;
 
-/// A vector whose growth may fail, and is limited by the budget of memory.
+/// A vector. Its growth may fail, and is limited by the memory budget.
 #[derive(PartialEq, Eq, PartialOrd, Ord, Hash)]
 pub struct Vec<T>(std::vec::Vec<T>);
 
 impl<T> Vec<T> {
-    /// Returns an empty vector, without an allocation.
+    /// Returns an empty vector without allocating.
     #[inline]
     pub fn new(_alloc: Global) -> Vec<T> {
         Vec(std::vec::Vec::new())
@@ -22,7 +22,7 @@ impl<T> Vec<T> {
     ///
     /// # Errors
     ///
-    /// Returns `AllocError` if memory is refused.
+    /// Returns `AllocError` if memory runs out.
     pub fn with_capacity(alloc: Global, capacity: usize) -> Result<Vec<T>, AllocError> {
         let mut values = Vec::new(alloc);
         values.reserve(capacity)?;
@@ -33,7 +33,7 @@ impl<T> Vec<T> {
     ///
     /// # Errors
     ///
-    /// Returns `AllocError` if memory is refused.
+    /// Returns `AllocError` if memory runs out.
     pub fn from_slice(alloc: Global, items: &[T]) -> Result<Vec<T>, AllocError>
     where
         T: Copy,
@@ -43,14 +43,14 @@ impl<T> Vec<T> {
         Ok(copies)
     }
 
-    /// Returns the values as one of Rust's vectors, which the budget does not count.
+    /// Returns the values as a vector of Rust's standard library, which the budget does not count.
     pub fn into_std(mut self) -> std::vec::Vec<T> {
         release(self.0.capacity().wrapping_mul(size_of::<T>()));
         self.take_claimed()
     }
 
-    /// Returns the values as one of Rust's vectors, and leaves an empty vector. Their bytes remain
-    /// claimed.
+    /// Returns the values as a vector of Rust's standard library, and leaves this vector empty. The
+    /// bytes of the values remain claimed.
     pub(crate) fn take_claimed(&mut self) -> std::vec::Vec<T> {
         core::mem::take(&mut self.0)
     }
@@ -60,7 +60,7 @@ impl<T> Vec<T> {
         Vec(values)
     }
 
-    /// Makes room for `additional` values after those of the vector, in a new allocation.
+    /// Makes room for `additional` more values in a new allocation.
     #[cold]
     fn grow(&mut self, additional: usize) -> Result<(), AllocError> {
         let (len, size) = (self.0.len(), size_of::<T>());
@@ -74,11 +74,11 @@ impl<T> Vec<T> {
         done.map_err(|_| AllocError)
     }
 
-    /// Makes room for `additional` values after those of the vector.
+    /// Makes room for `additional` more values.
     ///
     /// # Errors
     ///
-    /// Returns `AllocError` if memory is refused. The vector is unchanged then.
+    /// Returns `AllocError` if memory runs out. In this case, the vector is unchanged.
     #[inline]
     pub fn reserve(&mut self, additional: usize) -> Result<(), AllocError> {
         if additional <= self.0.capacity() - self.0.len() {
@@ -92,7 +92,7 @@ impl<T> Vec<T> {
         &Global
     }
 
-    /// Returns the number of values for which the vector has room, with those that it contains.
+    /// Returns the number of values that the vector can contain without a new allocation.
     #[inline]
     pub fn capacity(&self) -> usize {
         self.0.capacity()
@@ -108,7 +108,8 @@ impl<T> Vec<T> {
     ///
     /// # Errors
     ///
-    /// Returns `AllocFailed` with the value if memory is refused. The vector is unchanged then.
+    /// Returns `AllocFailed` with the value if memory runs out. In this case, the vector is
+    /// unchanged.
     #[inline]
     pub fn push(&mut self, value: T) -> Result<(), AllocFailed<T>> {
         if self.0.len() == self.0.capacity() && self.grow(1).is_err() {
@@ -124,11 +125,12 @@ impl<T> Vec<T> {
         self.0.pop()
     }
 
-    /// Inserts `element` before the value at `index`, or at the end.
+    /// Inserts `element` before the value at `index`, or at the end if `index` is the length.
     ///
     /// # Errors
     ///
-    /// Returns `AllocFailed` with the value if memory is refused. The vector is unchanged then.
+    /// Returns `AllocFailed` with `element` if memory runs out. In this case, the vector is
+    /// unchanged.
     ///
     /// # Panics
     ///
@@ -147,13 +149,13 @@ impl<T> Vec<T> {
         self.0.clear();
     }
 
-    /// Removes all except the first `n` values. Does nothing if there are not more.
+    /// Removes all values except the first `n`. Does nothing if the vector has at most `n` values.
     #[inline]
     pub fn truncate(&mut self, n: usize) {
         self.0.truncate(n);
     }
 
-    /// Removes each value that is equal to the one before it.
+    /// Removes each value that is equal to the preceding value.
     pub fn dedup(&mut self)
     where
         T: PartialEq,
@@ -161,12 +163,12 @@ impl<T> Vec<T> {
         self.0.dedup();
     }
 
-    /// Sets the length of the vector to `n`: removes values at its end, or appends copies of
-    /// `value` there.
+    /// Changes the length of the vector to `n`: removes values from the end, or appends copies of
+    /// `value`.
     ///
     /// # Errors
     ///
-    /// Returns `AllocError` if memory is refused. The vector is unchanged then.
+    /// Returns `AllocError` if memory runs out. In this case, the vector is unchanged.
     #[inline]
     pub fn resize(&mut self, n: usize, value: T) -> Result<(), AllocError>
     where
@@ -181,18 +183,18 @@ impl<T> Vec<T> {
     ///
     /// # Errors
     ///
-    /// Returns `AllocError` if memory is refused. Both vectors are unchanged then.
+    /// Returns `AllocError` if memory runs out. In this case, both vectors are unchanged.
     pub fn append(&mut self, other: &mut Vec<T>) -> Result<(), AllocError> {
         self.reserve(other.len())?;
         self.0.append(&mut other.0);
         Ok(())
     }
 
-    /// Removes the values from the index `at` on, and returns them as another vector.
+    /// Removes the values from the index `at` on, and returns them in a new vector.
     ///
     /// # Errors
     ///
-    /// Returns `AllocError` if memory is refused. The vector is unchanged then.
+    /// Returns `AllocError` if memory runs out. In this case, the vector is unchanged.
     ///
     /// # Panics
     ///
@@ -207,7 +209,7 @@ impl<T> Vec<T> {
     ///
     /// # Errors
     ///
-    /// Returns `AllocError` if memory is refused. The vector is unchanged then.
+    /// Returns `AllocError` if memory runs out. In this case, the vector is unchanged.
     #[inline]
     pub fn extend_from_slice(&mut self, other: &[T]) -> Result<(), AllocError>
     where
@@ -222,8 +224,8 @@ impl<T> Vec<T> {
     ///
     /// # Errors
     ///
-    /// Returns `AllocError` if memory is refused. The items before the failure have been appended
-    /// then.
+    /// Returns `AllocError` if memory runs out. In this case, the items before the failure have
+    /// been appended.
     pub fn extend<I: IntoIterator<Item = T>>(&mut self, items: I) -> Result<(), AllocError> {
         let items = items.into_iter();
         self.reserve(items.size_hint().0)?;
@@ -233,16 +235,17 @@ impl<T> Vec<T> {
         Ok(())
     }
 
-    /// Replaces the values at the indices in `range` by `items`, and returns an iterator over the
+    /// Replaces the values at the indices in `range` with `items`, and returns an iterator over the
     /// replaced values.
     ///
     /// # Errors
     ///
-    /// Returns `AllocError` if memory is refused. The vector is unchanged then.
+    /// Returns `AllocError` if memory runs out. In this case, the vector is unchanged.
     ///
     /// # Panics
     ///
-    /// Panics if the range is not in order or ends after the end of the vector.
+    /// Panics if the start of the range is greater than its end, or the end is greater than the
+    /// length of the vector.
     pub fn splice<R: RangeBounds<usize>, I: IntoIterator<Item = T>>(
         &mut self,
         range: R,

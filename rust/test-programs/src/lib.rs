@@ -1,4 +1,5 @@
-//! The programs of the tests and the examples in Rattle, each as a module, without its contracts.
+//! Contains the programs of the tests and the examples in Rattle. Each program is a module, without
+//! its contracts.
 
 #![no_std]
 #![forbid(unsafe_code)]

@@ -1,6 +1,6 @@
-//! Builds the automaton of rules in one loop over its states, from the start on, until each state
-//! has its targets. `Graph::new` of `logos_graph` calls `build` once it has checked the size of the
-//! rules.
+//! Builds the automaton of rules. A loop over the states, beginning with the start, computes the
+//! targets of each state. `Graph::new` of `logos_graph` calls `build` after it has checked the size
+//! of the rules.
 
 ghost use Rattle.std.specs.Prelude.{◌≡◌, ◌^◌, ◌<◌, ◌≤◌, ◌+◌, [], Bool, false, List, IfOk, IfErr, OnOk, length, map, vec_len};
 ghost use Rattle.logos_automaton.specs.Views.{AreFree, Core, core_of, AreMeasured, width_of, size_of, AllStart, IsTotal, ReadsOneByteLate, IsCacheOf, IsPrepared, cores_of, IsUnderway, FailsOn, FailsFor, dfa_of, AreDistinct, AreReached, IsBuilt, rules_of};
@@ -35,8 +35,8 @@ fn only_start(alloc: Global) -> Result<IndexSet<Key>, AllocError>
     Ok(states)
 }
 
-/// Returns the states in the order of their numbers, without the index by which `states` finds
-/// their numbers. A `Dfa` does not need that index.
+/// Returns the states in the order of their numbers. Drops the hash index of `states`, which a
+/// `Dfa` does not need.
 ///
 /// # Errors
 ///
@@ -47,8 +47,8 @@ fn in_order(alloc: Global, states: IndexSet<Key>) -> Result<Vec<Key>, AllocError
     states.into_iter().collect(alloc)
 }
 
-/// Adds the targets of the first state that has none to `rows` and `ends`, and the targets that are
-/// new to `states`.
+/// Computes the targets of the first state without targets, and appends them to `rows` and `ends`.
+/// Adds each new target to `states`.
 ///
 /// # Errors
 ///
@@ -83,12 +83,12 @@ fn fill_next(
     Ok(())
 }
 
-/// Builds the automaton of `nodes`, prepared trees. `looks` is whether one of them has a
-/// look-around assertion.
+/// Builds the automaton of the prepared trees `nodes`. `looks` is `true` if at least one of the
+/// trees has a look-around assertion.
 ///
 /// # Errors
 ///
-/// Returns `LimitStates` if there are more states than an automaton can have, and `Memory` if
+/// Returns `LimitStates` if the automaton would have more than 65,536 states, and `Memory` if
 /// memory runs out.
 fn build_nodes(alloc: Global, nodes: &[Node], looks: bool) -> Result<Dfa, BuildError>
     requires fits { width_of (map core_of nodes.now) < 2 ^ 64 }
@@ -126,7 +126,7 @@ fn build_nodes(alloc: Global, nodes: &[Node], looks: bool) -> Result<Dfa, BuildE
     })
 }
 
-/// Builds the automaton of `rules`, whose trees must have a size within the limit.
+/// Builds the automaton of `rules`. The size of all trees together must be within the limit.
 ///
 /// # Errors
 ///

@@ -1,5 +1,5 @@
-//! The parts of an automaton, by the number of a state. The faults of rules, the table of a graph
-//! and the evidence read these parts.
+//! Returns the number of states of an automaton, and the parts of each state. Called by `faults`,
+//! `logos_attempts`, `logos_evidence`, `logos_graph` and `logos_html`.
 
 ghost use Rattle.std.specs.Prelude.{◌≡◌, ◌<◌, Some, length, slice_get};
 ghost use Rattle.logos_automaton.specs.DfaView.{dfa_of};
@@ -13,7 +13,7 @@ pub fn state_count(dfa: &Dfa) -> usize
     dfa.rows.len()
 }
 
-/// Returns the numbers of the leaves of a state, ascending.
+/// Returns the numbers of the leaves of a state, in ascending order.
 pub fn leaves_at(dfa: &Dfa, state: usize) -> &[usize]
     requires { state < length (dfa_of dfa.now).matches }
     ensures { slice_get (dfa_of dfa.now).matches state ≡ Some result.now }
@@ -21,7 +21,7 @@ pub fn leaves_at(dfa: &Dfa, state: usize) -> &[usize]
     &dfa.states[state].matches
 }
 
-/// Returns the targets of a state for each byte.
+/// Returns the targets of a state for all bytes.
 pub fn row_at(dfa: &Dfa, state: usize) -> &Row
     requires { state < length (dfa_of dfa.now).matches }
     ensures { slice_get (dfa_of dfa.now).by_byte state ≡ Some result.now }

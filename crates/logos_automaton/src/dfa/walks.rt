@@ -1,5 +1,5 @@
-//! Walks through an automaton, from state to state. Users of the library and the evidence call
-//! these functions.
+//! Defines the public interface for walking through an automaton from state to state. Called by
+//! `logos_causes`, `logos_evidence`, `logos_html` and users of the library.
 
 ghost use Rattle.std.specs.Prelude.{◌≤◌, ◌≡◌};
 
@@ -12,21 +12,21 @@ use logos_hir::leaf::LeafId;
 #[derive(Clone, Copy, Debug, PartialEq, Eq)]
 pub struct StateId(pub(crate) usize);
 
-/// An iterator over the leaves of a state, ascending.
+/// An iterator over the leaves of a state, in ascending order.
 #[derive(Clone, Copy)]
 pub struct Matches<'d> {
     leaves: &'d [usize],
 }
 
-/// An iterator over the targets of a state: for each byte from 0 to 255, and then for the end.
-/// Equal targets occur more than once.
+/// An iterator over the targets of a state: the target for each byte from 0 to 255, and then the
+/// target for the end. A state that is the target of several symbols occurs once for each symbol.
 #[derive(Clone, Copy)]
 pub struct Children<'d> {
     row: &'d [u16],
     end: Option<u32>,
 }
 
-/// An iterator over the states of an automaton, ascending.
+/// An iterator over the states of an automaton, in ascending order.
 #[derive(Clone, Copy)]
 pub struct DfaStates {
     next: usize,
@@ -35,7 +35,7 @@ pub struct DfaStates {
 }
 
 impl StateId {
-    /// Returns the number of the state, which is 0 for the start.
+    /// Returns the number of the state. The number of the start is 0.
     pub fn index(self) -> usize
         ensures { result ≡ self.0 }
     {
@@ -47,7 +47,7 @@ impl Dfa {
     ghost use Rattle.std.specs.Prelude.{◌≡◌, ◌<◌, ◌↔◌, ℕ, IsTrue, Some, Contains, length, slice_get};
     ghost use Rattle.logos_automaton.specs.Views.{All, range_with_len, dfa_next, IsReachable, dfa_of, matches_left, children_left, states_left};
 
-    /// Returns the state before the first byte.
+    /// Returns the start, which is the state before the first byte.
     pub fn start(&self) -> StateId
         ensures start { result.0 ≡ (dfa_of self.now).start }
         ensures within { result.0 < length (dfa_of self.now).matches }
@@ -55,8 +55,8 @@ impl Dfa {
         StateId(0)
     }
 
-    /// Returns whether the automaton contains the state: whether its number is below the number of
-    /// states.
+    /// Returns whether the automaton contains the state, that is, whether the state's number is
+    /// less than the number of states.
     pub fn contains(&self, state: StateId) -> bool
         ensures { IsTrue result ↔ (state.0 < length (dfa_of self.now).matches) }
     {
@@ -82,8 +82,8 @@ impl Dfa {
         StateId(self.ends[state.0] as usize)
     }
 
-    /// Returns the leaves of a state, ascending: those that match all bytes read but the last one,
-    /// or all bytes after the end. The automaton must contain the state.
+    /// Returns the leaves of a state, in ascending order. These leaves match all bytes read except
+    /// the last one, or all bytes if the end was read. The automaton must contain the state.
     pub fn iter_matches(&self, state: StateId) -> Matches<'_>
         requires { state.0 < length (dfa_of self.now).matches }
         ensures { slice_get (dfa_of self.now).matches state.0 ≡ Some (matches_left result) }
@@ -93,8 +93,8 @@ impl Dfa {
         }
     }
 
-    /// Returns the targets of a state: for each byte from 0 to 255, and then for the end. The
-    /// automaton must contain the state.
+    /// Returns the targets of a state: the target for each byte from 0 to 255, and then the target
+    /// for the end. The automaton must contain the state.
     pub fn iter_children(&self, state: StateId) -> Children<'_>
         requires { state.0 < length (dfa_of self.now).matches }
         ensures count { length (children_left result) ≡ SYMBOLS }
@@ -111,8 +111,8 @@ impl Dfa {
         }
     }
 
-    /// Returns all states of the automaton, ascending: the start, and the states that bytes and the
-    /// end lead to from there.
+    /// Returns all states of the automaton, in ascending order. The first one is the start, from
+    /// which bytes and the end lead to all others.
     pub fn get_states(&self) -> DfaStates
         ensures all { states_left result ≡ range_with_len 0 (length (dfa_of self.now).matches) }
         ensures reached { (s : ℕ) → Contains (states_left result) s ↔

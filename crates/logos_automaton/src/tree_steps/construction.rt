@@ -1,5 +1,5 @@
-//! Computes the steps of one tree for each byte. `cache` calls `steps_of` once for each state of a
-//! tree.
+//! Computes the steps of one tree for each byte. `cache` calls `steps_of` for each state of a tree
+//! whose steps are not cached.
 
 ghost use Rattle.std.specs.Prelude.{◌≡◌, ◌+◌, ◌-◌, ◌<◌, ◌≤◌, ℕ, false, IsTrue, IfOk, IfSome, OnOk, length, vec_len, slice_get, slice_index, slice_index_or};
 ghost use Rattle.logos_automaton.specs.Views.{AreChangesOf, AreFirstOf, IsPrepared, tree_view, view_of, viewed, AreStepsFrom, IsTreeState, MakesFrom};
@@ -13,15 +13,15 @@ use logos_positions::positions::step::ReadByte;
 use logos_positions::positions::tree::{TreeStep, step_tree};
 use std::alloc::{AllocError, Global};
 
-/// Returns whether the two steps are equal.
+/// Returns whether two steps are equal.
 fn is_same(one: &TreeStep, other: &TreeStep) -> bool
     ensures { IsTrue result → view_of one.now ≡ view_of other.now }
 {
     one.left == other.left && one.positions == other.positions
 }
 
-/// Returns the index of the first step in `found` that is equal to `step`, or the number of steps
-/// if there is none.
+/// Returns the index of the first step in `found` that is equal to `step`, or the length of `found`
+/// if there is no such step.
 fn position_of(found: &[TreeStep], step: &TreeStep) -> usize
     ensures within { result ≤ length found.now }
     ensures same { result < length found.now →
@@ -37,7 +37,7 @@ fn position_of(found: &[TreeStep], step: &TreeStep) -> usize
     i
 }
 
-/// Returns the index of `step` in `found`, and appends the step if it is new.
+/// Returns the index of `step` in `found`. Appends the step to `found` if it is new.
 ///
 /// # Errors
 ///
@@ -57,7 +57,7 @@ fn add_step(found: &mut Vec<TreeStep>, step: TreeStep) -> Result<usize, AllocErr
     Ok(i)
 }
 
-/// Returns the step of a tree from `state` for `byte`.
+/// Returns the step of the tree of `state` from this state for `byte`.
 ///
 /// # Errors
 ///
@@ -86,8 +86,8 @@ fn step_by(trees: &Trees<'_>, state: &TreeState, byte: u8) -> Result<TreeStep, A
     )
 }
 
-/// Returns the index of the step for `byte`: `known`, if that is not `None`. Otherwise computes the
-/// step, and appends it to `found` if it is new.
+/// Returns the index in `known` if there is one. Otherwise computes the step for `byte`, appends
+/// the step to `found` if it is new, and returns its index in `found`.
 ///
 /// # Errors
 ///
@@ -121,8 +121,8 @@ fn index_by(
     Ok(i as u8)
 }
 
-/// Returns a flag for each byte: whether the tree of `state` or look-around assertions can
-/// distinguish it from the byte before it.
+/// Returns an array in which the flag of a byte is `true` if the tree of `state` or look-around
+/// assertions can distinguish the byte from the next smaller byte.
 fn first_in(trees: &Trees<'_>, state: &TreeState) -> [bool; 256]
     requires prepared { IsPrepared trees.now }
     requires state { IsTreeState trees.now.nodes.now trees.now.starts.now (tree_view state.now) }
@@ -140,8 +140,8 @@ fn first_in(trees: &Trees<'_>, state: &TreeState) -> [bool; 256]
     first
 }
 
-/// Returns the index of the step for the byte before `byte`, or `None` if the flag of `byte` is set
-/// or `byte` is 0.
+/// Returns the index of the step for `byte - 1`. Returns `None` if the flag of `byte` in `first` is
+/// set or `byte` is 0.
 fn index_before(first: &[bool; 256], by_byte: &[u8; 256], byte: usize) -> Option<u8>
     requires within { byte < 256 }
     ensures { IfSome result (λ i. (1 ≤ byte) × (slice_index_or first.now byte false ≡ false)
@@ -156,7 +156,8 @@ fn index_before(first: &[bool; 256], by_byte: &[u8; 256], byte: usize) -> Option
     Some(by_byte[byte - 1])
 }
 
-/// Returns the bytes whose entry differs from that of the byte before, ascending.
+/// Returns the bytes whose entry in `by_byte` differs from the entry of the next smaller byte, in
+/// ascending order.
 ///
 /// # Errors
 ///
@@ -172,7 +173,7 @@ fn changes_of(alloc: Global, by_byte: &[u8; 256]) -> Result<Vec<u8>, AllocError>
     Ok(changes)
 }
 
-/// Returns the steps of a tree from `state` for each byte.
+/// Returns the steps of the tree of `state` from this state, for each byte.
 ///
 /// # Errors
 ///

@@ -1,8 +1,8 @@
 //! Finds runs of neighboring bytes with the same step in a state. Called by `rows`, which writes
-//! the entries of a run at once.
+//! all entries of a run at once.
 //!
-//! A run consists of a byte and the bytes after it that are like it, up to an end. It need not be
-//! maximal.
+//! A run consists of consecutive bytes from a first byte up to but not including an end. A run need
+//! not be maximal.
 
 ghost use Rattle.std.specs.Prelude.{◌≡◌, ◌<◌, ◌≤◌, ◌==◌, IfSome, None, map, slice_index_or};
 ghost use Rattle.logos_code.specs.Views.{EndsRun, comparison_of, compares, some_compares, is_among, passes_test, by_conditions, NamesTest, NamesCondition, NamesFork, NamesExisting, stays, target, passes, condition_of, branch_of, fork_of, jumps_of, state_of, code_of};
@@ -11,8 +11,8 @@ use super::{CodeParts, CodeState, Condition, Fork};
 use logos_byte_class::byte_class::Comparisons;
 
 impl CodeParts<'_> {
-    /// Returns the end of a run that begins at `byte` and whose bytes have the same step in the
-    /// state.
+    /// Returns the end of a run that begins at `byte`. All bytes of the run have the same step in
+    /// `state`.
     pub(super) fn run_end(&self, state: &CodeState, byte: usize) -> usize
         requires there { NamesExisting (code_of self.now)
             (state_of self.now.jump_tables.items state.now) }
@@ -25,8 +25,8 @@ impl CodeParts<'_> {
         self.fork_end(&state.fork, byte, end)
     }
 
-    /// Returns the end of a run that begins at `byte` and whose bytes all pass the test of the fast
-    /// loop, or all do not. Without a fast loop the end is 256.
+    /// Returns the end of a run that begins at `byte`. Either all bytes of the run pass the test of
+    /// the fast loop, or none does. Without a fast loop, the end is 256.
     fn loop_end(&self, fast_loop: Option<usize>, byte: usize) -> usize
         requires there { IfSome fast_loop (NamesTest (code_of self.now)) }
         requires byte { byte < 256 }
@@ -38,8 +38,8 @@ impl CodeParts<'_> {
         }
     }
 
-    /// Returns the end, at most `end`, of a run that begins at `byte` and whose bytes all lead to
-    /// the same state, or all lead nowhere.
+    /// Returns the end of a run that begins at `byte` and ends no later than `end`. Either all
+    /// bytes of the run lead to the same state, or all lead nowhere.
     fn fork_end(&self, fork: &Fork, byte: usize, end: usize) -> usize
         requires there { NamesFork (code_of self.now)
             (fork_of self.now.jump_tables.items fork.now) }
@@ -54,8 +54,8 @@ impl CodeParts<'_> {
         }
     }
 
-    /// Returns the end, at most `end`, of a run that begins at `byte` and for whose bytes the same
-    /// conditions hold.
+    /// Returns the end of a run that begins at `byte` and ends no later than `end`. The same
+    /// conditions hold for all bytes of the run.
     fn branches_end(&self, branches: &[(Condition, usize)], byte: usize, end: usize) -> usize
         requires there { NamesFork (code_of self.now) (by_conditions (map branch_of branches.now)) }
         requires byte { byte < end }
@@ -70,8 +70,8 @@ impl CodeParts<'_> {
         until
     }
 
-    /// Returns the end, at most `end`, of a run that begins at `byte` and for whose bytes the
-    /// condition always holds, or never.
+    /// Returns the end of a run that begins at `byte` and ends no later than `end`. The condition
+    /// holds either for all bytes of the run or for none.
     fn condition_end(&self, condition: &Condition, byte: usize, end: usize) -> usize
         requires there { NamesCondition (code_of self.now) (condition_of condition.now) }
         requires byte { byte < end }
@@ -85,8 +85,8 @@ impl CodeParts<'_> {
         }
     }
 
-    /// Returns the end, at most `end`, of a run that begins at `byte` and whose bytes all pass test
-    /// `k`, or all do not.
+    /// Returns the end of a run that begins at `byte` and ends no later than `end`. Either all
+    /// bytes of the run pass the test `k`, or none does.
     fn test_end(&self, k: usize, byte: usize, end: usize) -> usize
         requires there { NamesTest (code_of self.now) k }
         requires byte { byte < end }
@@ -103,8 +103,8 @@ impl CodeParts<'_> {
     }
 }
 
-/// Returns the end, at most `end`, of a run that begins at `byte` and whose bytes have the same
-/// entry in the jump table.
+/// Returns the end of a run that begins at `byte` and ends no later than `end`. All bytes of the
+/// run have the same entry in the jump table.
 fn table_end(table: &[u32; 256], byte: usize, end: usize) -> usize
     requires byte { byte < end }
     requires end { end ≤ 256 }
@@ -119,8 +119,8 @@ fn table_end(table: &[u32; 256], byte: usize, end: usize) -> usize
     end
 }
 
-/// Returns the end, at most `end`, of a run that begins at `byte` and for whose bytes the same
-/// comparisons hold.
+/// Returns the end of a run that begins at `byte` and ends no later than `end`. The same
+/// comparisons hold for all bytes of the run.
 fn comparisons_end(comparisons: &[Comparisons], byte: usize, end: usize) -> usize
     requires { byte < end }
     ensures { EndsRun (some_compares (map comparison_of comparisons.now)) byte end result }
@@ -132,8 +132,8 @@ fn comparisons_end(comparisons: &[Comparisons], byte: usize, end: usize) -> usiz
     until
 }
 
-/// Returns the end, at most `end`, of a run that begins at `byte` and for whose bytes the
-/// comparison always holds, or never.
+/// Returns the end of a run that begins at `byte` and ends no later than `end`. The comparison
+/// holds either for all bytes of the run or for none.
 fn comparison_end(comparison: &Comparisons, byte: usize, end: usize) -> usize
     requires { byte < end }
     ensures { EndsRun (compares (comparison_of comparison.now)) byte end result }
@@ -145,8 +145,8 @@ fn comparison_end(comparison: &Comparisons, byte: usize, end: usize) -> usize
     exceptions_end(&comparison.except, byte, until)
 }
 
-/// Returns the end, at most `end`, of a run that begins at `byte` and whose bytes are all in
-/// `except`, or are all not in it.
+/// Returns the end of a run that begins at `byte` and ends no later than `end`. Either all bytes of
+/// the run are in `except`, or none is.
 fn exceptions_end(except: &[u8], byte: usize, end: usize) -> usize
     requires { byte < end }
     ensures { EndsRun (is_among except.now) byte end result }
@@ -159,7 +159,7 @@ fn exceptions_end(except: &[u8], byte: usize, end: usize) -> usize
     until
 }
 
-/// Returns `at` if it is after `byte` and before `end`, and `end` otherwise.
+/// Returns `at` if it is greater than `byte` and less than `end`, and `end` otherwise.
 fn cut(byte: usize, end: usize, at: usize) -> usize
     requires { byte < end }
     ensures after { byte < result }

@@ -1,5 +1,5 @@
 //! Constructs code values from their parts. Called only by the generator of codes, so `code` does
-//! not re-export it.
+//! not re-export this module.
 
 ghost use Rattle.std.specs.Prelude.{◌≡◌, IfOk};
 ghost use Rattle.logos_code.specs.Views.{code_of, IsValid, IsWhole};
@@ -12,10 +12,10 @@ use super::uses::{LeafUse, uses_of};
 use super::{Code, CodeParts};
 use std::alloc::{AllocError, Global};
 
-/// The tables of a code, which are computed from its parts.
+/// The tables that are computed from the parts of a code.
 #[derive(Drop)]
 struct CodeTables {
-    /// The entry of each byte at the start of a match attempt.
+    /// The entry of each byte as the first byte of a match attempt.
     first: [u32; 256],
     rows: Vec<u32>,
     masks: Vec<[u8; 32]>,
@@ -24,7 +24,7 @@ struct CodeTables {
     uses: Vec<LeafUse>,
 }
 
-/// Returns the tables of a code with these parts.
+/// Returns the tables of a code with the parts `parts`.
 fn tables_of(alloc: Global, parts: &CodeParts<'_>) -> Result<CodeTables, AllocError>
     requires { IsValid parts.now }
     ensures { IfOk result (λ tables. IsWhole parts.now tables.first tables.rows.items
@@ -46,8 +46,8 @@ fn tables_of(alloc: Global, parts: &CodeParts<'_>) -> Result<CodeTables, AllocEr
     })
 }
 
-/// Returns the code with these parts. Each state, table, test and leaf to which they refer must
-/// exist, and no two jump tables may be equal.
+/// Returns the code with the parts `parts`. All states, tables, tests and leaves to which the parts
+/// refer must exist, and no two jump tables may be equal.
 ///
 /// # Errors
 ///

@@ -1,9 +1,9 @@
-//! Finds last marks: the last mark that a match attempt has passed if it ends in a given state.
-//! Called by `construction`; the fast path of an attempt reads the last marks.
+//! Finds last marks: for each state, the last mark that a match attempt has passed if it ends in
+//! the state. Called by `construction`. The fast path of an attempt reads the last marks.
 //!
-//! If all paths to a state agree on the last mark, a lexer need not record the marks that it
+//! If all paths to a state have the same last mark, a lexer need not record the marks that it
 //! passes. The last marks are searched along the forks of all states, and then checked. Only the
-//! check establishes that they are correct.
+//! check establishes that the last marks are correct.
 
 ghost use Rattle.std.specs.Prelude.{◌≡◌, ◌<◌, IfOk, IfSome, IsTrue, length, map, option_map, if◌then◌else◌};
 ghost use Rattle.logos_code.specs.Views.{code_of, mark_of, branch_of, fork_of, jumps_of, entry_of, by_conditions, by_table, IsSound, NamesFork, AreLastMarks, last_mark_at, IsOwn, Follows, FollowsAt, FollowsBack, ForkAgrees, StateAgrees, BeginsUnmarked, Agree};
@@ -15,13 +15,14 @@ use std::alloc::{AllocError, Global};
 /// The last mark that a match attempt has passed if it ends in a given state.
 #[derive(Clone, Copy, PartialEq, Eq)]
 pub enum LastMark {
-    /// An unknown last mark: no path to the state was found.
+    /// No path to the state was found, so the last mark is unknown.
     Unseen,
-    /// Different last marks on different paths to the state.
+    /// Different paths to the state have different last marks.
     Varies,
-    /// No last mark: no mark was passed.
+    /// No mark was passed.
     Never,
-    /// A match of this leaf that ends this number of bytes before the end of the attempt.
+    /// The last mark is a match of this leaf that ends this number of bytes before the end of the
+    /// attempt.
     Back(LeafId, usize),
 }
 
@@ -30,11 +31,12 @@ pub enum LastMark {
 struct Search {
     /// The last mark that has been found for each state.
     found: Vec<LastMark>,
-    /// The states whose last mark has changed since their targets were updated.
+    /// The states whose last marks have changed since the search last updated their targets.
     open: Vec<usize>,
 }
 
-/// Returns the last marks of all states, or an empty list if the check fails.
+/// Returns the last marks of all states, or an empty list if the last marks found do not pass the
+/// check.
 ///
 /// # Errors
 ///
@@ -50,8 +52,8 @@ pub(super) fn last_marks_of(alloc: Global, parts: &CodeParts) -> Result<Vec<Last
     Ok(Vec::new(alloc))
 }
 
-/// Returns the last marks of all states, as a search along their forks finds them. The result has
-/// not been checked.
+/// Returns the last marks of all states that a search along the forks finds. The result is not
+/// checked.
 ///
 /// # Errors
 ///
@@ -74,7 +76,7 @@ fn find(alloc: Global, parts: &CodeParts) -> Result<Vec<LastMark>, AllocError> {
 
 impl Search {
     /// Updates the last marks of all states to which the fork of `state` leads. Does nothing if
-    /// there is no such state.
+    /// `state` does not exist.
     fn update_targets(&mut self, parts: &CodeParts, state: usize) -> Result<(), AllocError> {
         let mark = last_mark_at(&self.found, state);
         let Some(state) = parts.states.get(state) else {
@@ -86,8 +88,8 @@ impl Search {
         }
     }
 
-    /// Updates the last marks of all states to which the branches lead. `mark` is the last mark in
-    /// the state of the branches.
+    /// Updates the last marks of all states to which `branches` lead. `mark` is the last mark in
+    /// the state that has the branches.
     fn update_by_conditions(
         &mut self,
         parts: &CodeParts,
@@ -100,8 +102,8 @@ impl Search {
         Ok(())
     }
 
-    /// Updates the last marks of all states to which jump table `k` leads. `mark` is the last mark
-    /// in the state of the table.
+    /// Updates the last marks of all states to which the jump table `k` leads. `mark` is the last
+    /// mark in the state that has the table. Does nothing if the table does not exist.
     fn update_by_table(
         &mut self,
         parts: &CodeParts,
@@ -118,7 +120,7 @@ impl Search {
     }
 
     /// Updates the last mark of the state `to`, if the state exists. `mark` is the last mark in a
-    /// state that leads to it.
+    /// state that leads to `to`.
     fn update_target(
         &mut self,
         parts: &CodeParts,
@@ -131,8 +133,8 @@ impl Search {
         }
     }
 
-    /// Records that an attempt can end in the state with this last mark, and opens the state if its
-    /// last mark changes. Does nothing if there is no such state.
+    /// Records that an attempt can end in `state` with the last mark `mark`. Opens the state if its
+    /// last mark changes. Does nothing if the state does not exist.
     fn find_more(&mut self, state: usize, mark: LastMark) -> Result<(), AllocError> {
         if state >= self.found.len() {
             return Ok(());
@@ -147,8 +149,8 @@ impl Search {
     }
 }
 
-/// Returns the last mark of a state for which `one` and then `other` was found: `other` if `one` is
-/// `Unseen` or equal to it, and `Varies` otherwise.
+/// Returns the last mark of a state after the last mark `other` was found in addition to `one`. The
+/// result is `other` if `one` is `Unseen` or equals `other`, and `Varies` otherwise.
 fn either(one: LastMark, other: LastMark) -> LastMark {
     if one == LastMark::Unseen || one == other {
         other
@@ -157,8 +159,8 @@ fn either(one: LastMark, other: LastMark) -> LastMark {
     }
 }
 
-/// Returns the last mark in a state, where `before` is the last mark in a state that leads to it on
-/// a byte. The result is `Varies` if a fast loop makes the number of bytes unknown.
+/// Returns the last mark in `state` after a byte that leads to `state`. `before` is the last mark
+/// before the byte. The result is `Varies` if a fast loop makes the number of bytes unknown.
 fn entered(state: &CodeState, before: LastMark) -> LastMark {
     match (state.mark, before) {
         (Some(mark), _) => LastMark::Back(mark.leaf, bytes_back(mark)),
@@ -170,15 +172,16 @@ fn entered(state: &CodeState, before: LastMark) -> LastMark {
     }
 }
 
-/// Returns the number of bytes between the end of a mark's match and the state: 1 if the mark is
-/// late, and 0 otherwise.
+/// Returns the number of bytes between the end of a mark's match and the state that has the mark.
+/// The number is 1 if the mark is late, and 0 otherwise.
 fn bytes_back(mark: Mark) -> usize
     ensures { result ≡ (if mark.late then 1 else 0) }
 {
     if mark.late { 1 } else { 0 }
 }
 
-/// Returns the last mark in the state with this number, or `Unseen` if `marks` has no such element.
+/// Returns the last mark in the state with the number `state`, or `Unseen` if `marks` has no such
+/// element.
 pub(super) fn last_mark_at(marks: &[LastMark], state: usize) -> LastMark
     ensures { result ≡ last_mark_at marks.now state }
 {
@@ -188,8 +191,8 @@ pub(super) fn last_mark_at(marks: &[LastMark], state: usize) -> LastMark
     }
 }
 
-/// Returns whether the last marks agree with the marks of states, and with each other along all
-/// transitions, so that they are correct.
+/// Returns whether the last marks are correct: whether they agree with the marks of all states, and
+/// with each other along all transitions.
 fn agree(parts: &CodeParts, marks: &[LastMark]) -> bool
     requires { IsSound (code_of parts.now) }
     ensures { IsTrue result → Agree (code_of parts.now) marks.now }
@@ -205,8 +208,7 @@ fn agree(parts: &CodeParts, marks: &[LastMark]) -> bool
     true
 }
 
-/// Returns whether `mark` can be the last mark in the state in which match attempts begin: whether
-/// it is not `Back`.
+/// Returns whether `mark` can be the last mark in the root, that is, whether `mark` is not `Back`.
 fn begins_unmarked(mark: LastMark) -> bool
     ensures { IsTrue result → BeginsUnmarked mark }
 {
@@ -214,7 +216,7 @@ fn begins_unmarked(mark: LastMark) -> bool
 }
 
 /// Returns whether the last mark in a state agrees with the state's mark, and with the last marks
-/// in the states to which its bytes lead.
+/// in the states to which the fork of the state leads.
 fn state_agrees(parts: &CodeParts, marks: &[LastMark], state: usize) -> bool
     requires sound { IsSound (code_of parts.now) }
     requires state { state < length parts.now.states.items }
@@ -228,8 +230,8 @@ fn state_agrees(parts: &CodeParts, marks: &[LastMark], state: usize) -> bool
     fork_agrees(parts, marks, from, &state.fork)
 }
 
-/// Returns whether the last marks in the states to which the fork leads follow from `from`, the
-/// last mark in the state of the fork.
+/// Returns whether the last marks in all states to which `fork` leads follow from `from`. `from` is
+/// the last mark in the state that has the fork.
 fn fork_agrees(parts: &CodeParts, marks: &[LastMark], from: LastMark, fork: &Fork) -> bool
     requires { NamesFork (code_of parts.now) (fork_of parts.now.jump_tables.items fork.now) }
     ensures { IsTrue result → ForkAgrees (code_of parts.now) marks.now from
@@ -241,8 +243,8 @@ fn fork_agrees(parts: &CodeParts, marks: &[LastMark], from: LastMark, fork: &For
     }
 }
 
-/// Returns whether the last marks in the states to which the branches lead follow from `from`, the
-/// last mark in the state of the branches.
+/// Returns whether the last marks in all states to which `branches` lead follow from `from`. `from`
+/// is the last mark in the state that has the branches.
 fn branches_agree(
     parts: &CodeParts,
     marks: &[LastMark],
@@ -260,8 +262,8 @@ fn branches_agree(
     true
 }
 
-/// Returns whether the last marks in the states to which the jump table leads follow from `from`,
-/// the last mark in the state of the table.
+/// Returns whether the last marks in all states to which the jump table leads follow from `from`.
+/// `from` is the last mark in the state that has the table.
 fn table_agrees(parts: &CodeParts, marks: &[LastMark], from: LastMark, table: &[u32; 256]) -> bool
     ensures { IsTrue result → ForkAgrees (code_of parts.now) marks.now from
         (by_table (jumps_of table.now)) }
@@ -274,7 +276,7 @@ fn table_agrees(parts: &CodeParts, marks: &[LastMark], from: LastMark, table: &[
     true
 }
 
-/// Returns whether `last`, the last mark in a state, agrees with `mark`, the state's mark.
+/// Returns whether the last mark `last` in a state agrees with `mark`, the mark of the state.
 fn is_own(last: LastMark, mark: Option<Mark>) -> bool
     ensures { IsTrue result → IsOwn last (option_map mark_of mark) }
 {
@@ -288,8 +290,8 @@ fn is_own(last: LastMark, mark: Option<Mark>) -> bool
     }
 }
 
-/// Returns whether the entry of a jump table leads nowhere, or `target_agrees` holds for the state
-/// to which it leads.
+/// Returns whether an entry of a jump table leads nowhere, or leads to a state for which
+/// `target_agrees` returns `true`.
 fn entry_agrees(parts: &CodeParts, marks: &[LastMark], from: LastMark, entry: u32) -> bool
     ensures { IsTrue result → IfSome (entry_of entry) (FollowsAt (code_of parts.now) marks.now
         from) }
@@ -301,7 +303,7 @@ fn entry_agrees(parts: &CodeParts, marks: &[LastMark], from: LastMark, entry: u3
 }
 
 /// Returns whether the state `to` exists, and has a mark of its own or a last mark that follows
-/// from `from`, the last mark in a state that leads to it.
+/// from `from`. `from` is the last mark in a state that leads to `to`.
 fn target_agrees(parts: &CodeParts, marks: &[LastMark], from: LastMark, to: usize) -> bool
     ensures { IsTrue result → FollowsAt (code_of parts.now) marks.now from to }
 {
@@ -314,9 +316,9 @@ fn target_agrees(parts: &CodeParts, marks: &[LastMark], from: LastMark, to: usiz
     follows(from, next.fast_loop, last_mark_at(marks, to))
 }
 
-/// Returns whether `to`, the last mark in a state without a mark of its own, follows from `from`,
-/// the last mark in a state that leads to it on a byte. `fast_loop` is the fast loop of the first
-/// state.
+/// Returns whether `to` follows from `from` along a byte. `from` is the last mark in the state
+/// before the byte, and `to` is the last mark in the state after the byte. The state after the byte
+/// has the fast loop `fast_loop` and no mark of its own.
 fn follows(from: LastMark, fast_loop: Option<usize>, to: LastMark) -> bool
     ensures { IsTrue result → Follows to from fast_loop }
 {
@@ -327,7 +329,7 @@ fn follows(from: LastMark, fast_loop: Option<usize>, to: LastMark) -> bool
     }
 }
 
-/// Returns whether `from` is `Back` with this leaf and one byte fewer than `bytes`.
+/// Returns whether `from` is `Back` with the leaf `leaf` and `bytes - 1` bytes.
 fn follows_back(from: LastMark, leaf: LeafId, bytes: usize) -> bool
     ensures { IsTrue result → FollowsBack from leaf.0 bytes }
 {

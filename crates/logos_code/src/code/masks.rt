@@ -1,5 +1,5 @@
-//! Computes the masks of tests, with which a fast loop tests sixteen bytes at once. Called by
-//! `construction`; the fast loops of lexers read the masks.
+//! Computes the masks of tests. With a mask, a fast loop tests sixteen bytes at once. Called by
+//! `construction`. The fast loops of lexers read the masks.
 
 ghost use Rattle.std.specs.Prelude.{◌≡◌, ◌+◌, ◌*◌, ◌<◌, ◌≤◌, ◌^◌, ◌==◌, ℕ, if◌then◌else◌, IfOk};
 ghost use Rattle.logos_code.specs.Views.{bit_at, passes_test, code_of, IsMask, AreMasks, NamesTest};
@@ -23,8 +23,8 @@ pub(super) fn masks_of(alloc: Global, parts: &CodeParts) -> Result<Vec<[u8; 32]>
     Ok(masks)
 }
 
-/// Returns the mask of the test. Bit `b / 16 % 8` of entry `16 * (b / 128) + b % 16` is set if byte
-/// `b` passes the test.
+/// Returns the mask of the test with the number `test`. For each byte `b`, bit `b / 16 % 8` of
+/// entry `16 * (b / 128) + b % 16` is set if `b` passes the test.
 fn mask_of(parts: &CodeParts, test: usize) -> [u8; 32]
     requires { NamesTest (code_of parts.now) test }
     ensures { IsMask (passes_test parts.now.bit_tables.items test) result }
@@ -36,11 +36,12 @@ fn mask_of(parts: &CodeParts, test: usize) -> [u8; 32]
     mask
 }
 
-/// The least number for which the seven numbers after it at distances of 16 are not all bytes.
+/// The exclusive upper bound of the first bytes of mask entries: `FIRSTS - 1 + 7 * 16` is 255, the
+/// greatest byte.
 const FIRSTS: usize = 144;
 
-/// Returns the entry of a mask for the eight bytes at distances of 16 from `first` on: bit `k` is
-/// set if byte `k` of these passes the test.
+/// Returns an entry of a mask. Bit `k` of the entry is set if the byte `first + 16 * k` passes the
+/// test, for each `k` from 0 to 7.
 fn mask_entry(parts: &CodeParts, test: usize, first: usize) -> u8
     requires test { NamesTest (code_of parts.now) test }
     requires first { first < FIRSTS }
@@ -57,7 +58,7 @@ fn mask_entry(parts: &CodeParts, test: usize, first: usize) -> u8
         + mask_bit(parts.passes_test(test, (first + 112) as u8), 7)
 }
 
-/// Returns the number in which only bit `k` is set if `passes` is `true`, and 0 otherwise.
+/// Returns `1 << k` if `passes` is `true`, and 0 otherwise.
 fn mask_bit(passes: bool, k: usize) -> u8
     requires { k < 8 }
     ensures is { result ≡ if passes then 2 ^ k else 0 }

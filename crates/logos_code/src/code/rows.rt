@@ -1,28 +1,29 @@
-//! Computes rows: the step for each byte in each state, as one number. Called by `construction`;
-//! `logos_machine` and `logos_scan` read the rows.
+//! Computes rows: the step for each byte in each state, encoded as a number. Called by
+//! `construction`. `logos_machine` and `logos_scan` read the rows.
 //!
-//! The rows of all states are in one table, one after another, with `WIDTH` entries each: the step
-//! for byte `b` in state `s` is entry `WIDTH * s + b`. The row offset of a state is the index of
-//! the first entry of its row. An entry has its kind in the upper four bits, and its operand below
-//! them. The kinds are numbered in the order in which a lexer tests for them:
+//! The rows of all states are stored consecutively in one table, with `WIDTH` entries each. The
+//! step for byte `b` in state `s` is entry `WIDTH * s + b`. The row offset of a state is the index
+//! of the first entry of its row. The upper four bits of an entry are its kind, and the lower bits
+//! are its operand. The kinds are numbered in the order in which a lexer tests for them:
 //!
 //! | Kind | Operand | The byte |
 //! |---|---|---|
 //! | 0 | the row offset of a state | leads to this state |
 //! | 1, `STAYS` | a test | stays in the state, whose fast loop has this test |
-//! | 2, `LEAVES` | a leaf, `LATE` | ends a match before it, which is skipped without a callback |
-//! | 3, `HALTS` | a leaf, `LATE` | ends a match before it, which is a token without a callback |
-//! | 4, `CLOSES` | a leaf | ends a match after it, which is a token without a callback |
-//! | 5, `SHUTS` | a leaf | ends a match after it, which is skipped without a callback |
-//! | 6, `CALLS_BACK` | a leaf, `LATE` | ends a match before it, which may have a callback |
-//! | 7, `CALLS_BACK_AFTER` | a leaf | ends a match after it, which may have a callback |
-//! | 8, `STUCK` | nothing | leads nowhere, and the state marks no match there |
+//! | 2, `LEAVES` | a leaf, `LATE` | follows a match that is skipped without a callback |
+//! | 3, `HALTS` | a leaf, `LATE` | follows a match that is a token without a callback |
+//! | 4, `CLOSES` | a leaf | is the last byte of a match that is a token without a callback |
+//! | 5, `SHUTS` | a leaf | is the last byte of a match that is skipped without a callback |
+//! | 6, `CALLS_BACK` | a leaf, `LATE` | follows a match that may have a callback |
+//! | 7, `CALLS_BACK_AFTER` | a leaf | is the last byte of a match that may have a callback |
+//! | 8, `STUCK` | nothing | leads nowhere, and the state has no early mark |
 //! | 9, `UNDESCRIBED` | nothing | has a step that entries cannot describe |
 //!
-//! A match that ends after the byte is marked by the state to which the byte leads, and that state
-//! has no other step. If the match ends before the byte, bit `LATE` is 0 if the state itself marks
-//! it and the byte leads nowhere, and 1 if the byte leads to a state that marks it late and has no
-//! other step. A step that is too large for an entry is `UNDESCRIBED`.
+//! A match that ends after the byte is marked by the state to which the byte leads, and this state
+//! has no other step. For a match that ends before the byte, the bit `LATE` has two values. If
+//! `LATE` is 0, the state itself marks the match and the byte leads nowhere. If `LATE` is 1, the
+//! byte leads to a state that marks the match late and has no other step. A step that is too large
+//! for an entry is `UNDESCRIBED`.
 
 ghost use Rattle.std.specs.Prelude.{◌≡◌, ◌+◌, ◌*◌, ◌<◌, ◌≤◌, ◌⊎◌, false, ℕ, List, length, map, None, Some, option_map, IfOk, IfSome, slice_index, slice_index_or};
 ghost use Rattle.logos_code.specs.Views.{comparison_of, some_compares, passes_test, by_conditions, IsSound, NamesTest, NamesState, NamesCondition, NamesFork, NamesExisting, stays, target, passes, mark_of, condition_of, branch_of, fork_of, use_of, jumps_of, state_of, has_mask, code_of, closing, IsStepOf, first_halting, first_closing, IsUse, IsPlainUse, Describes, IsHalting, IsEntry, IsRow, AreRows, IsFirstEntry, IsFirstOf};
@@ -33,48 +34,46 @@ use logos_hir::leaf::LeafId;
 use logos_pattern::leaf::VariantKind;
 use std::alloc::{AllocError, Global};
 
-/// The distance between the first entries of two consecutive kinds, since the lower 28 bits of an
-/// entry are its operand.
+/// The distance between the first entries of two consecutive kinds. The lower 28 bits of an entry
+/// are its operand.
 const NAMED: u32 = 1 << 28;
 
-/// The number of entries of a row: one for each byte, and 16 unused ones. Without the unused ones,
-/// the entries of one byte in many states would be a power of two apart, and would evict each other
-/// from a processor's cache.
+/// The number of entries of a row: one for each byte, and 16 unused entries. Without the unused
+/// entries, the entries of a byte in different states would be a power of two apart, and would
+/// evict each other from the processor's cache.
 pub const WIDTH: usize = 272;
 
 /// The maximum number of states that entries can represent.
 const STATES: usize = 986_896;
 
-/// The number that is added to the entry of a match that ends before the byte, if the byte leads to
-/// a state that marks the match late.
+/// The bit that is set in the entry of a match that ends before the byte, if the byte leads to a
+/// state that marks the match late.
 pub const LATE: u32 = 1 << 27;
 
-/// The first of the entries with a test: the byte does not change the state, whose fast loop has
-/// this test. A lesser entry is the row offset of the state to which the byte leads.
+/// The first of the entries with a test as operand. The byte does not change the state, whose fast
+/// loop has this test. A smaller entry is the row offset of the state to which the byte leads.
 pub const STAYS: u32 = NAMED;
 
-/// The first of the entries with the leaf of a match that ends before the byte, and is skipped
-/// without a callback.
+/// The first of the entries with a leaf whose match ends before the byte and is skipped without a
+/// callback.
 pub const LEAVES: u32 = 2 * NAMED;
 
-/// The first of the entries with the leaf of a match that ends before the byte, and is a token
-/// without a callback.
+/// The first of the entries with a leaf whose match ends before the byte and is a token without a
+/// callback.
 pub const HALTS: u32 = 3 * NAMED;
 
-/// The first of the entries with the leaf of a match that ends after the byte, and is a token
-/// without a callback.
+/// The first of the entries with a leaf whose match ends after the byte and is a token without a
+/// callback.
 pub const CLOSES: u32 = 4 * NAMED;
 
-/// The first of the entries with the leaf of a match that ends after the byte, and is skipped
-/// without a callback.
+/// The first of the entries with a leaf whose match ends after the byte and is skipped without a
+/// callback.
 pub const SHUTS: u32 = 5 * NAMED;
 
-/// The first of the entries with the leaf of a match that ends before the byte, and may have a
-/// callback.
+/// The first of the entries with a leaf whose match ends before the byte and may have a callback.
 pub const CALLS_BACK: u32 = 6 * NAMED;
 
-/// The first of the entries with the leaf of a match that ends after the byte, and may have a
-/// callback.
+/// The first of the entries with a leaf whose match ends after the byte and may have a callback.
 pub const CALLS_BACK_AFTER: u32 = 7 * NAMED;
 
 /// The entry of a byte that leads nowhere from a state without an early mark.
@@ -83,39 +82,40 @@ pub const STUCK: u32 = 8 * NAMED;
 /// The entry of a byte whose step no other entry describes.
 pub const UNDESCRIBED: u32 = 9 * NAMED;
 
-/// The use of the matches of a leaf, as far as entries describe it.
+/// The use of a leaf's matches, to the extent that entries describe it.
 #[derive(Clone, Copy)]
 pub enum MatchUse {
-    /// Tokens, without a callback.
+    /// The matches become tokens, without a callback.
     Emits,
-    /// No items, without a callback.
+    /// The matches are skipped, without a callback.
     Skips,
-    /// A use that a callback may determine.
+    /// A callback may determine the use of the matches.
     CallsBack,
 }
 
 /// The step for a byte in a state.
 #[derive(Clone, Copy)]
 pub enum Step {
-    /// A transition to this state.
+    /// The byte leads to this state.
     Leads(usize),
-    /// No change of the state, whose fast loop has this test.
+    /// The byte does not change the state, whose fast loop has this test.
     Stays(usize),
-    /// No transition, after a match of this leaf that ends before the byte.
+    /// The byte leads nowhere, and a match of this leaf ends before the byte.
     Halts(LeafId, MatchUse),
-    /// A transition to a state that marks a match of this leaf late, which ends before the byte.
-    /// The state has no other step.
+    /// The byte leads to a state that marks a match of this leaf late and has no other step. The
+    /// match ends before the byte.
     Looks(LeafId, MatchUse),
-    /// A transition to a state that marks a match of this leaf early, which ends after the byte.
-    /// The state has no other step.
+    /// The byte leads to a state that marks a match of this leaf early and has no other step. The
+    /// match ends after the byte.
     Closes(LeafId, MatchUse),
-    /// No transition, and no match in this state that ends before the byte.
+    /// The byte leads nowhere, and the state has no early mark.
     Stuck,
-    /// A step that an entry cannot describe.
+    /// No entry can describe the step.
     Undescribed,
 }
 
-/// Returns the entry that represents the step, or `UNDESCRIBED` if no other entry can represent it.
+/// Returns the entry that represents `step`, or `UNDESCRIBED` if no other entry can represent the
+/// step.
 pub(super) fn entry_of_step(step: Step) -> u32
     ensures { IsStepOf result step ⊎ IsStepOf result Step.Undescribed }
 {
@@ -132,7 +132,8 @@ pub(super) fn entry_of_step(step: Step) -> u32
     }
 }
 
-/// Returns the first of the entries with the leaf of a match of this use that ends before the byte.
+/// Returns the first of the entries with a leaf whose match ends before the byte and has the use
+/// `used`.
 fn first_halting(used: MatchUse) -> u32
     ensures { result ≡ first_halting used }
 {
@@ -143,7 +144,8 @@ fn first_halting(used: MatchUse) -> u32
     }
 }
 
-/// Returns the first of the entries with the leaf of a match of this use that ends after the byte.
+/// Returns the first of the entries with a leaf whose match ends after the byte and has the use
+/// `used`.
 fn first_closing(used: MatchUse) -> u32
     ensures { result ≡ first_closing used }
 {
@@ -154,7 +156,7 @@ fn first_closing(used: MatchUse) -> u32
     }
 }
 
-/// Returns the rows of all states, one after another.
+/// Returns the concatenated rows of all states.
 ///
 /// # Errors
 ///
@@ -170,7 +172,7 @@ pub(super) fn rows_of(alloc: Global, parts: &CodeParts) -> Result<Vec<u32>, Allo
     Ok(rows)
 }
 
-/// Returns the row of a state: the entries of all bytes, and 16 unused ones.
+/// Returns the row of a state: the entries of all bytes, followed by 16 unused entries.
 fn row_of(parts: &CodeParts, state: &CodeState) -> [u32; 272]
     requires { NamesExisting (code_of parts.now)
         (state_of parts.now.jump_tables.items state.now) }
@@ -186,7 +188,7 @@ fn row_of(parts: &CodeParts, state: &CodeState) -> [u32; 272]
     row
 }
 
-/// Writes `entry` for the bytes from `byte` up to but not including `end`.
+/// Writes `entry` to `row` for the bytes from `byte` up to but not including `end`.
 fn fill(row: &mut [u32; 272], byte: usize, end: usize, entry: u32)
     requires { end ≤ 256 }
     ensures inside { (k : ℕ) → byte ≤ k → k < end → slice_index row.new k ≡ entry }
@@ -197,7 +199,7 @@ fn fill(row: &mut [u32; 272], byte: usize, end: usize, entry: u32)
     }
 }
 
-/// Returns the entry of the byte in the state.
+/// Returns the entry of `byte` in `state`.
 fn entry_at(parts: &CodeParts, state: &CodeState, byte: u8) -> u32
     requires { NamesExisting (code_of parts.now)
         (state_of parts.now.jump_tables.items state.now) }
@@ -207,8 +209,8 @@ fn entry_at(parts: &CodeParts, state: &CodeState, byte: u8) -> u32
     entry_of_step(parts.step(state, byte))
 }
 
-/// Returns the row for the first byte of an attempt, given the rows of all states and `root`, the
-/// number of the state in which match attempts begin.
+/// Returns the entries of the first byte of an attempt. `rows` contains the rows of all states, and
+/// `root` is the number of the state in which match attempts begin.
 pub(super) fn first_row(rows: &[u32], root: usize) -> [u32; 256]
     requires { WIDTH * root + 256 ≤ length rows.now }
     ensures { IsFirstOf rows.now root result }
@@ -220,8 +222,8 @@ pub(super) fn first_row(rows: &[u32], root: usize) -> [u32; 256]
     first
 }
 
-/// Returns the entry in the row for first bytes: `entry`, which is that in the root's row, or
-/// `UNDESCRIBED` if `entry` is of the kind `STAYS`, `LEAVES` or `HALTS`.
+/// Returns the entry of a first byte whose entry in the row of the root is `entry`. The result is
+/// `UNDESCRIBED` if `entry` is of the kind `STAYS`, `LEAVES` or `HALTS`, and `entry` otherwise.
 fn first_entry(entry: u32) -> u32
     ensures { IsFirstEntry entry result }
 {
@@ -232,7 +234,8 @@ fn first_entry(entry: u32) -> u32
     }
 }
 
-/// Returns the mark of the state, or `None` if the state has no mark or another step.
+/// Returns the mark of a state that has no step other than the mark. Returns `None` if the state
+/// has another step or no mark.
 fn closing_mark(state: &CodeState) -> Option<Mark>
     ensures { IfSome result (λ mark. (tables : List (List ℕ)) →
         state_of tables state.now ≡ closing (mark_of mark)) }
@@ -246,7 +249,7 @@ fn closing_mark(state: &CodeState) -> Option<Mark>
     state.mark
 }
 
-/// Returns the leaf of a mark that is not late, or `None` for any other mark and for no mark.
+/// Returns the leaf of an early mark. Returns `None` if the mark is late or absent.
 pub(super) fn early_leaf(mark: Option<Mark>) -> Option<LeafId>
     ensures { IfSome result (λ leaf. option_map mark_of mark
         ≡ Some (record { leaf = leaf.0; late = false })) }
@@ -258,7 +261,7 @@ pub(super) fn early_leaf(mark: Option<Mark>) -> Option<LeafId>
 }
 
 impl CodeParts<'_> {
-    /// Returns whether the byte passes the test of the fast loop, or `false` if there is no fast
+    /// Returns whether `byte` passes the test of the fast loop. Returns `false` if there is no fast
     /// loop.
     fn stays(&self, fast_loop: Option<usize>, byte: u8) -> bool
         requires { IfSome fast_loop (NamesTest (code_of self.now)) }
@@ -270,7 +273,7 @@ impl CodeParts<'_> {
         }
     }
 
-    /// Returns the step for the byte in the state.
+    /// Returns the step for `byte` in `state`.
     fn step(&self, state: &CodeState, byte: u8) -> Step
         requires { NamesExisting (code_of self.now)
             (state_of self.now.jump_tables.items state.now) }
@@ -286,7 +289,8 @@ impl CodeParts<'_> {
         }
     }
 
-    /// Returns the step for a byte that does not pass the test of the fast loop.
+    /// Returns the step for `byte` in `state`. The byte must not pass the test of the state's fast
+    /// loop.
     fn step_out(&self, state: &CodeState, byte: u8) -> Step
         requires there { NamesExisting (code_of self.now)
             (state_of self.now.jump_tables.items state.now) }
@@ -304,8 +308,8 @@ impl CodeParts<'_> {
         }
     }
 
-    /// Returns the step for a byte, or for the end of the input, that leads nowhere from a state
-    /// with this mark.
+    /// Returns the step for a symbol that leads nowhere from a state with the mark `mark`. The
+    /// symbol is a byte or the end of the input.
     pub(super) fn halting_step(&self, mark: Option<Mark>) -> Step
         ensures { IsHalting (code_of self.now) (option_map mark_of mark) result }
     {
@@ -315,8 +319,8 @@ impl CodeParts<'_> {
         }
     }
 
-    /// Returns the use of the matches of the leaf: `CallsBack` if it has a callback or does not
-    /// exist.
+    /// Returns the use of the matches of `leaf`. The result is `CallsBack` if the leaf has a
+    /// callback or does not exist.
     fn match_use(&self, leaf: LeafId) -> MatchUse
         ensures { IsUse (code_of self.now) leaf.0 result }
     {
@@ -326,7 +330,7 @@ impl CodeParts<'_> {
         }
     }
 
-    /// Returns the state to which the byte leads by this fork, or `None` if it leads nowhere.
+    /// Returns the state to which `fork` leads on `byte`, or `None` if the byte leads nowhere.
     pub(super) fn target(&self, fork: &Fork, byte: u8) -> Option<usize>
         requires { NamesFork (code_of self.now) (fork_of self.now.jump_tables.items fork.now) }
         ensures is { result ≡ target (code_of self.now)
@@ -339,8 +343,8 @@ impl CodeParts<'_> {
         }
     }
 
-    /// Returns the target of the first branch whose condition holds, or `None` if no condition
-    /// holds.
+    /// Returns the target of the first branch whose condition holds for `byte`, or `None` if no
+    /// condition holds.
     fn first_target(&self, branches: &[(Condition, usize)], byte: u8) -> Option<usize>
         requires { NamesFork (code_of self.now) (by_conditions (map branch_of branches.now)) }
         ensures { result ≡ target (code_of self.now)
@@ -354,7 +358,7 @@ impl CodeParts<'_> {
         None
     }
 
-    /// Returns whether the condition holds for the byte.
+    /// Returns whether `condition` holds for `byte`.
     fn passes(&self, condition: &Condition, byte: u8) -> bool
         requires { NamesCondition (code_of self.now) (condition_of condition.now) }
         ensures { result ≡ passes (code_of self.now) (condition_of condition.now) byte }
@@ -365,7 +369,7 @@ impl CodeParts<'_> {
         }
     }
 
-    /// Returns whether the byte passes the test with this number.
+    /// Returns whether `byte` passes the test with the number `k`.
     pub(super) fn passes_test(&self, k: usize, byte: u8) -> bool
         requires { NamesTest (code_of self.now) k }
         ensures { result ≡ passes_test self.now.bit_tables.items k byte }
@@ -374,7 +378,7 @@ impl CodeParts<'_> {
     }
 }
 
-/// Returns the use of the matches of a leaf without a callback.
+/// Returns the use of the matches of `leaf`, which must not have a callback.
 fn plain_use(leaf: &CodeLeaf) -> MatchUse
     requires { leaf.now.callback ≡ None }
     ensures { IsPlainUse (use_of leaf.now) result }
@@ -385,14 +389,14 @@ fn plain_use(leaf: &CodeLeaf) -> MatchUse
     }
 }
 
-/// Returns the target of the jump table for the byte, or `None` if the byte leads nowhere.
+/// Returns the state to which a jump table leads on `byte`, or `None` if the byte leads nowhere.
 fn jump(table: &[u32; 256], byte: u8) -> Option<usize>
     ensures { result ≡ slice_index_or (jumps_of table.now) byte None }
 {
     target_of(table[byte as usize])
 }
 
-/// Returns whether at least one of the comparisons holds for the byte.
+/// Returns whether at least one of `comparisons` holds for `byte`.
 fn some_holds(comparisons: &[Comparisons], byte: u8) -> bool
     ensures { result ≡ some_compares (map comparison_of comparisons.now) byte }
 {
@@ -404,7 +408,7 @@ fn some_holds(comparisons: &[Comparisons], byte: u8) -> bool
     false
 }
 
-/// Returns whether the table's entry for the byte has a bit that is set in `mask`.
+/// Returns whether the entry of `table` for `byte` has a bit that is set in `mask`.
 fn has_mask(table: &[u8; 256], mask: u8, byte: u8) -> bool
     ensures { result ≡ has_mask table.now mask byte }
 {

@@ -1,5 +1,5 @@
-//! Computes accept signs: the marks of states, each read with one load. Called by `construction`;
-//! the slow path of an attempt reads the signs.
+//! Computes signs: the marks of states in a form that a lexer reads with one load. Called by
+//! `construction`. The slow path of an attempt reads the signs.
 
 ghost use Rattle.std.specs.Prelude.{◌≡◌, IfOk, map, option_map};
 ghost use Rattle.logos_code.specs.Views.{mark_of, code_of, mark_by, AreSigns};
@@ -8,15 +8,15 @@ use super::{CodeParts, Mark};
 use logos_hir::leaf::LeafId;
 use std::alloc::{AllocError, Global};
 
-/// The mark of a state. A lexer distinguishes the three cases by a branch, so that it need not wait
-/// for the leaf.
+/// The mark of a state, with a variant for each case. A lexer branches on the variant, so that it
+/// need not wait for the leaf to be loaded.
 #[derive(Clone, Copy)]
 pub enum Sign {
-    /// No mark.
+    /// The state has no mark.
     Nothing,
-    /// The leaf of an early mark, whose match ends at the state.
+    /// The state has an early mark: a match of this leaf ends at the state.
     Here(LeafId),
-    /// The leaf of a late mark, whose match ends one byte before the state.
+    /// The state has a late mark: a match of this leaf ends one byte before the state.
     Before(LeafId),
 }
 
@@ -35,7 +35,7 @@ pub(super) fn signs_of(alloc: Global, parts: &CodeParts) -> Result<Vec<Sign>, Al
     Ok(signs)
 }
 
-/// Returns the sign of a mark, or `Nothing` for `None`.
+/// Returns the sign of a mark, or `Nothing` if there is no mark.
 fn sign_of(mark: Option<Mark>) -> Sign
     ensures { mark_by result ≡ option_map mark_of mark }
 {

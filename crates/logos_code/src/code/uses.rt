@@ -1,5 +1,5 @@
-//! Computes the uses of the matches of leaves, each read with one load. Called by `construction`; a
-//! lexer reads a use at the end of a match.
+//! Computes the uses of the leaves' matches. A lexer reads a use with one load at the end of a
+//! match. Called by `construction`.
 
 ghost use Rattle.std.specs.Prelude.{◌≡◌, IfOk, map};
 ghost use Rattle.logos_code.specs.Views.{use_of, use_by};
@@ -8,8 +8,8 @@ use super::{CodeLeaf, CodeParts};
 use logos_pattern::leaf::VariantKind;
 use std::alloc::{AllocError, Global};
 
-/// The use of the matches of a leaf, in two bytes. A lexer reads these bytes instead of a
-/// `CodeLeaf`, which is far larger.
+/// The use of a leaf's matches, in two bytes. A lexer reads these bytes instead of a `CodeLeaf`,
+/// which is far larger.
 #[derive(Clone, Copy)]
 pub(crate) struct LeafUse {
     /// Whether the matches are skipped.
@@ -33,7 +33,7 @@ pub(super) fn uses_of(alloc: Global, parts: &CodeParts) -> Result<Vec<LeafUse>, 
     Ok(uses)
 }
 
-/// Returns the use of the matches of a leaf.
+/// Returns the use of a leaf's matches.
 fn leaf_use(leaf: &CodeLeaf) -> LeafUse
     ensures { use_by result ≡ use_of leaf.now }
 {

@@ -40,7 +40,7 @@ pub(super) fn report_priority_twice(
     )
 }
 
-/// Reports the argument `priority` without `= ..` after it.
+/// Reports that `= ..` is missing after the argument `priority`.
 pub(super) fn report_priority_form(name: Ident<'_>, errors: &mut Errors) -> Result<(), Memory>
     ensures { OnOk result
         (AddsFault (priority_form (ident_slice name.entry)) errors.old errors.new) }
@@ -79,7 +79,7 @@ pub(super) fn report_greedy_twice(tokens: Tokens<'_, '_>, errors: &mut Errors) -
     )
 }
 
-/// Reports the argument `allow_greedy` without `= ..` after it.
+/// Reports that `= ..` is missing after the argument `allow_greedy`.
 pub(super) fn report_greedy_form(name: Ident<'_>, errors: &mut Errors) -> Result<(), Memory>
     ensures { OnOk result (AddsFault (greedy_form (ident_slice name.entry)) errors.old errors.new) }
 {
@@ -91,7 +91,7 @@ pub(super) fn report_greedy_form(name: Ident<'_>, errors: &mut Errors) -> Result
     )
 }
 
-/// Reports the argument `callback` without `= ..` after it.
+/// Reports that `= ..` is missing after the argument `callback`.
 pub(crate) fn report_callback_form(name: Ident<'_>, errors: &mut Errors) -> Result<(), Memory>
     ensures { OnOk result
         (AddsFault (callback_form (ident_slice name.entry)) errors.old errors.new) }
@@ -104,7 +104,7 @@ pub(crate) fn report_callback_form(name: Ident<'_>, errors: &mut Errors) -> Resu
     )
 }
 
-/// Reports the argument `ignore` without a group after it.
+/// Reports that a group is missing after the argument `ignore`.
 pub(super) fn report_ignore_form(name: Ident<'_>, errors: &mut Errors) -> Result<(), Memory>
     ensures { OnOk result (AddsFault (ignore_form (ident_slice name.entry)) errors.old errors.new) }
 {
@@ -116,7 +116,7 @@ pub(super) fn report_ignore_form(name: Ident<'_>, errors: &mut Errors) -> Result
     )
 }
 
-/// Reports `name`, which no argument of a definition has.
+/// Reports `name`, an unknown name of an argument of a definition.
 pub(super) fn report_unknown(name: Ident<'_>, errors: &mut Errors) -> Result<(), Memory>
     ensures { OnOk result
         (AddsFault (unknown_nested (ident_slice name.entry)) errors.old errors.new) }
@@ -130,7 +130,7 @@ pub(super) fn report_unknown(name: Ident<'_>, errors: &mut Errors) -> Result<(),
     )
 }
 
-/// Reports `tokens`, which belong to no argument.
+/// Reports `tokens` that belong to no argument.
 pub(crate) fn report_unexpected(tokens: Tokens<'_, '_>, errors: &mut Errors) -> Result<(), Memory>
     ensures { OnOk result
         (AddsFault (unexpected_token (tokens_of tokens.entry)) errors.old errors.new) }
@@ -143,7 +143,7 @@ pub(crate) fn report_unexpected(tokens: Tokens<'_, '_>, errors: &mut Errors) -> 
     )
 }
 
-/// Reports `tokens`, an argument without a name that is not the first argument.
+/// Reports `tokens`, an argument without a name after the first argument.
 pub(crate) fn report_named_expected(
     tokens: Tokens<'_, '_>,
     errors: &mut Errors,

@@ -12,7 +12,7 @@ use logos_enum::Attribute;
 use logos_token::error::{Errors, FaultCode, Memory};
 use logos_token::token::Span;
 
-/// Reports the `logos` attribute at `span`, which has no arguments.
+/// Reports that the `logos` attribute at `span` has no arguments.
 fn report_logos_form(span: Span, errors: &mut Errors) -> Result<(), Memory>
     ensures { OnOk result (AddsFault (logos_form span) errors.old errors.new) }
 {
@@ -20,7 +20,8 @@ fn report_logos_form(span: Span, errors: &mut Errors) -> Result<(), Memory>
 }
 
 impl<'s> Parser<'s> {
-    /// Adds the arguments of the `logos` attribute at `span`, or reports that it has none.
+    /// Adds the arguments of the `logos` attribute at `span`, or reports that the attribute has
+    /// none.
     fn add_meta(&mut self, meta: Meta<'_, 's>, span: Span) -> Result<(), Memory>
         ensures { OnOk result (ReadsMeta
             (parser_view self.old) (parser_view self.new) self.old.errors self.new.errors
@@ -32,8 +33,7 @@ impl<'s> Parser<'s> {
         }
     }
 
-    /// Adds the arguments of an attribute of the enum, and ignores an attribute that is not named
-    /// `logos`.
+    /// Adds the arguments of a `logos` attribute of the enum. Ignores any other attribute.
     fn add_attribute(&mut self, attribute: Attribute<'_, 's>) -> Result<(), Memory>
         ensures { OnOk result (ReadsAttribute
             (parser_view self.old) (parser_view self.new) self.old.errors self.new.errors
@@ -45,8 +45,8 @@ impl<'s> Parser<'s> {
         }
     }
 
-    /// Adds the arguments of an attribute of the enum, and reports their faults. Ignores an
-    /// attribute that is not named `logos`. Reports a `logos` attribute without a group.
+    /// Adds the arguments of a `logos` attribute of the enum, and reports their faults. Reports a
+    /// `logos` attribute without a group. Ignores any other attribute.
     ///
     /// # Errors
     ///
@@ -62,8 +62,8 @@ impl<'s> Parser<'s> {
     }
 
     /// Reads the definition in the arguments of a `token` or `regex` attribute. Returns `None` if
-    /// the attribute has no group, or if its group does not begin with a string or byte string.
-    /// Reports the tokens that come instead, if there are any.
+    /// the attribute has no group, or if the group does not begin with a string or byte string.
+    /// Reports the tokens found instead, if there are any.
     ///
     /// # Errors
     ///
@@ -82,7 +82,8 @@ impl<'s> Parser<'s> {
         unless_failed!(self, self.definition_in(attribute))
     }
 
-    /// Returns the same as `parse_definition_attr`, without checking whether the parser has failed.
+    /// Returns the result of `parse_definition_attr`, without checking whether the parser has
+    /// failed.
     fn definition_in(
         &mut self,
         attribute: Attribute<'_, 's>,

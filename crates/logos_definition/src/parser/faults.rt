@@ -1,5 +1,6 @@
-//! Reports faults of the options of a lexer. Each function adds one fault, or a fault and the span
-//! of the former value. `options` calls these functions.
+//! Reports faults of the options of a lexer. Each function adds one fault, or two faults for a
+//! second value: one at the second value, and one at the former value. `options` calls these
+//! functions.
 
 ghost use Rattle.std.specs.Prelude.{◌≡◌, ◌++◌, OnOk, Some};
 ghost use Rattle.logos_definition.specs.Imports.{tokens_of, ident_slice, AddsFault, once_only, utf8_twice, extras_twice, error_twice, export_twice, skip_form, skip_group, utf8_value, utf8_form, extras_form, crate_form, export_bytes, export_form, subpattern_form, error_form, source_old, unknown_logos, invalid_nested, type_form};
@@ -8,8 +9,7 @@ use logos_attribute::reports::{report_form, report_named, report_run};
 use logos_token::error::{Errors, FaultCode, Memory};
 use logos_token::token::{Ident, Span, Tokens};
 
-/// Reports a second value at `here` with `code` and `message`, and `there`, the span of the former
-/// value.
+/// Reports a second value at `here` with `code` and `message`, and the former value at `there`.
 fn report_twice(
     errors: &mut Errors,
     code: FaultCode,
@@ -24,7 +24,7 @@ fn report_twice(
     Ok(())
 }
 
-/// Reports a second UTF-8 mode at `here`, and `there`, the span of the former one.
+/// Reports a second UTF-8 mode at `here`, and the former mode at `there`.
 pub(super) fn report_mode_twice(here: Span, there: Span, errors: &mut Errors) -> Result<(), Memory>
     ensures { OnOk result (errors.new ≡ errors.old ++ utf8_twice here (Some there)) }
 {
@@ -37,7 +37,7 @@ pub(super) fn report_mode_twice(here: Span, there: Span, errors: &mut Errors) ->
     )
 }
 
-/// Reports a second type of extras at `here`, and `there`, the span of the former one.
+/// Reports a second type of extras at `here`, and the former type at `there`.
 pub(super) fn report_extras_twice(
     here: Span,
     there: Span,
@@ -54,7 +54,7 @@ pub(super) fn report_extras_twice(
     )
 }
 
-/// Reports a second error type at `here`, and `there`, the span of the former one.
+/// Reports a second error type at `here`, and the former type at `there`.
 pub(super) fn report_error_twice(here: Span, there: Span, errors: &mut Errors) -> Result<(), Memory>
     ensures { OnOk result (errors.new ≡ errors.old ++ error_twice here (Some there)) }
 {
@@ -67,7 +67,7 @@ pub(super) fn report_error_twice(here: Span, there: Span, errors: &mut Errors) -
     )
 }
 
-/// Reports a second export path at `here`, and `there`, the span of the former one.
+/// Reports a second export path at `here`, and the former path at `there`.
 pub(super) fn report_export_twice(
     here: Span,
     there: Span,
@@ -84,7 +84,7 @@ pub(super) fn report_export_twice(
     )
 }
 
-/// Reports the option `skip` without a literal or a group after it.
+/// Reports that a literal or a group is missing after the option `skip`.
 pub(super) fn report_skip_form(name: Ident<'_>, errors: &mut Errors) -> Result<(), Memory>
     ensures { OnOk result (AddsFault (skip_form (ident_slice name.entry)) errors.old errors.new) }
 {
@@ -96,7 +96,7 @@ pub(super) fn report_skip_form(name: Ident<'_>, errors: &mut Errors) -> Result<(
     )
 }
 
-/// Reports the option `utf8` without `= ..` after it.
+/// Reports that `= ..` is missing after the option `utf8`.
 pub(super) fn report_utf8_form(name: Ident<'_>, errors: &mut Errors) -> Result<(), Memory>
     ensures { OnOk result (AddsFault (utf8_form (ident_slice name.entry)) errors.old errors.new) }
 {
@@ -108,7 +108,7 @@ pub(super) fn report_utf8_form(name: Ident<'_>, errors: &mut Errors) -> Result<(
     )
 }
 
-/// Reports the option `extras` without `= ..` after it.
+/// Reports that `= ..` is missing after the option `extras`.
 pub(super) fn report_extras_form(name: Ident<'_>, errors: &mut Errors) -> Result<(), Memory>
     ensures { OnOk result (AddsFault (extras_form (ident_slice name.entry)) errors.old errors.new) }
 {
@@ -120,7 +120,7 @@ pub(super) fn report_extras_form(name: Ident<'_>, errors: &mut Errors) -> Result
     )
 }
 
-/// Reports the option `crate` without `= ..` after it.
+/// Reports that `= ..` is missing after the option `crate`.
 pub(super) fn report_crate_form(name: Ident<'_>, errors: &mut Errors) -> Result<(), Memory>
     ensures { OnOk result (AddsFault (crate_form (ident_slice name.entry)) errors.old errors.new) }
 {
@@ -132,7 +132,7 @@ pub(super) fn report_crate_form(name: Ident<'_>, errors: &mut Errors) -> Result<
     )
 }
 
-/// Reports the option `export_dir` without `= ..` after it.
+/// Reports that `= ..` is missing after the option `export_dir`.
 pub(super) fn report_export_form(name: Ident<'_>, errors: &mut Errors) -> Result<(), Memory>
     ensures { OnOk result (AddsFault (export_form (ident_slice name.entry)) errors.old errors.new) }
 {
@@ -144,7 +144,7 @@ pub(super) fn report_export_form(name: Ident<'_>, errors: &mut Errors) -> Result
     )
 }
 
-/// Reports the option `subpattern` without a name and `= ..` after it.
+/// Reports that a name and `= ..` are missing after the option `subpattern`.
 pub(super) fn report_subpattern_form(name: Ident<'_>, errors: &mut Errors) -> Result<(), Memory>
     ensures { OnOk result
         (AddsFault (subpattern_form (ident_slice name.entry)) errors.old errors.new) }
@@ -157,7 +157,7 @@ pub(super) fn report_subpattern_form(name: Ident<'_>, errors: &mut Errors) -> Re
     )
 }
 
-/// Reports the option `error` without `= ..` or a group after it.
+/// Reports that `= ..` or a group is missing after the option `error`.
 pub(super) fn report_error_form(name: Ident<'_>, errors: &mut Errors) -> Result<(), Memory>
     ensures { OnOk result (AddsFault (error_form (ident_slice name.entry)) errors.old errors.new) }
 {
@@ -169,7 +169,7 @@ pub(super) fn report_error_form(name: Ident<'_>, errors: &mut Errors) -> Result<
     )
 }
 
-/// Reports the option `source`, which `utf8` has replaced.
+/// Reports the option `source`, a former option that `utf8` has replaced.
 pub(super) fn report_source_old(name: Ident<'_>, errors: &mut Errors) -> Result<(), Memory>
     ensures { OnOk result (AddsFault (source_old (ident_slice name.entry)) errors.old errors.new) }
 {
@@ -181,7 +181,7 @@ pub(super) fn report_source_old(name: Ident<'_>, errors: &mut Errors) -> Result<
     )
 }
 
-/// Reports `tokens`, the group of a `skip(..)` that does not begin with a string or byte string.
+/// Reports that `tokens`, the group of a `skip(..)`, do not begin with a string or byte string.
 pub(super) fn report_skip_group(tokens: Tokens<'_, '_>, errors: &mut Errors) -> Result<(), Memory>
     ensures { OnOk result (AddsFault (skip_group (tokens_of tokens.entry)) errors.old errors.new) }
 {
@@ -213,7 +213,7 @@ pub(super) fn report_export_bytes(tokens: Tokens<'_, '_>, errors: &mut Errors) -
     report_run(errors, FaultCode::ExportBytes, "Expected a &str", tokens)
 }
 
-/// Reports `tokens`, an argument of `logos(..)` that has no name and value.
+/// Reports `tokens`, an argument of `logos(..)` without a name and a value.
 pub(super) fn report_invalid_nested(
     tokens: Tokens<'_, '_>,
     errors: &mut Errors,
@@ -229,7 +229,7 @@ pub(super) fn report_invalid_nested(
     )
 }
 
-/// Reports `name`, which no option has.
+/// Reports `name`, an unknown name of an option.
 pub(super) fn report_unknown_logos(name: Ident<'_>, errors: &mut Errors) -> Result<(), Memory>
     ensures { OnOk result
         (AddsFault (unknown_logos (ident_slice name.entry)) errors.old errors.new) }
@@ -243,7 +243,7 @@ pub(super) fn report_unknown_logos(name: Ident<'_>, errors: &mut Errors) -> Resu
     )
 }
 
-/// Reports the option `type` without a name and `= ..` after it.
+/// Reports that a name and `= ..` are missing after the option `type`.
 pub(super) fn report_type_form(name: Ident<'_>, errors: &mut Errors) -> Result<(), Memory>
     ensures { OnOk result (AddsFault (type_form (ident_slice name.entry)) errors.old errors.new) }
 {

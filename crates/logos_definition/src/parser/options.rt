@@ -24,8 +24,8 @@ impl<'s> Parser<'s> {
     ghost use Rattle.std.specs.Prelude.{OnOk, IfOk, string_bytes};
     ghost use Rattle.logos_definition.specs.Views.{grouped, named, tokens_of, ident_slice, literal_slice, IsReport, map_report, and_then, text_report, string_in, literal_view, value_of, piece_of, pieces_left, definition_report, skip_plain, skip_whole, skip_report, mode_set, utf8_report, extras_set, extras_report, crate_report, path_set, held_path, export_report, subpattern_set, subpattern_report, error_set, error_report, setting_report, option_report, ReadsError, ReadsType, ReadsPiece, ReadsPieces, error_view, parser_view};
 
-    /// Sets the UTF-8 mode to the boolean that `tokens` spell. Reports and replaces a former one.
-    /// Reports tokens that are not a boolean, and sets nothing.
+    /// Sets the UTF-8 mode to the boolean that `tokens` spell, and reports a second mode. If
+    /// `tokens` are not a boolean, reports them and leaves the mode unchanged.
     fn set_mode(&mut self, tokens: Tokens<'_, 's>) -> Result<(), Memory>
         ensures { OnOk result (IsReport (mode_set (tokens_of tokens.entry) (parser_view self.old))
             (parser_view self.new) self.old.errors self.new.errors) }
@@ -40,7 +40,7 @@ impl<'s> Parser<'s> {
         Ok(())
     }
 
-    /// Sets the UTF-8 mode from the argument `utf8`, or reports the fault of that argument.
+    /// Sets the UTF-8 mode from the argument `utf8`, and reports the argument's faults.
     fn add_utf8(&mut self, name: Ident<'s>, value: &NestedValue<'_, 's>) -> Result<(), Memory>
         ensures { OnOk result (IsReport
             (utf8_report (ident_slice name.entry) (value_of value.now) (parser_view self.old))
@@ -53,7 +53,7 @@ impl<'s> Parser<'s> {
         Ok(())
     }
 
-    /// Sets the type of extras to `tokens`. Reports and replaces a former one.
+    /// Sets the type of extras to `tokens`, and reports a second type of extras.
     fn set_extras(&mut self, tokens: Tokens<'_, 's>) -> Result<(), Memory>
         ensures { OnOk result (IsReport (extras_set (tokens_of tokens.entry) (parser_view self.old))
             (parser_view self.new) self.old.errors self.new.errors) }
@@ -65,7 +65,7 @@ impl<'s> Parser<'s> {
         Ok(())
     }
 
-    /// Sets the type of extras from the argument `extras`, or reports the fault of that argument.
+    /// Sets the type of extras from the argument `extras`, and reports the argument's faults.
     fn add_extras(&mut self, name: Ident<'s>, value: &NestedValue<'_, 's>) -> Result<(), Memory>
         ensures { OnOk result (IsReport
             (extras_report (ident_slice name.entry) (value_of value.now) (parser_view self.old))
@@ -78,8 +78,8 @@ impl<'s> Parser<'s> {
         Ok(())
     }
 
-    /// Sets the path of the crate from the argument `crate`, or reports the fault of that argument.
-    /// The path replaces a former one without a report.
+    /// Sets the path of the crate from the argument `crate`, and reports the argument's faults. A
+    /// second path replaces the first one without a report.
     fn add_crate(&mut self, name: Ident<'s>, value: &NestedValue<'_, 's>) -> Result<(), Memory>
         ensures { OnOk result (IsReport
             (crate_report (ident_slice name.entry) (value_of value.now) (parser_view self.old))
@@ -94,8 +94,8 @@ impl<'s> Parser<'s> {
         Ok(())
     }
 
-    /// Sets the path of the exported state diagram to `path`, the value of `tokens`. Reports and
-    /// replaces a former one.
+    /// Sets the path of the exported state diagram to `path`, the value of `tokens`, and reports a
+    /// second path.
     fn set_path(&mut self, tokens: Tokens<'_, 's>, path: String) -> Result<(), Memory>
         ensures { OnOk result (IsReport
             (path_set (tokens_of tokens.entry) (string_bytes path) (parser_view self.old))
@@ -108,8 +108,9 @@ impl<'s> Parser<'s> {
         Ok(())
     }
 
-    /// Sets the path of the exported state diagram to the value of `literal`, which `tokens`
-    /// consist of. Reports a byte string, and sets nothing.
+    /// Sets the path of the exported state diagram to the value of `literal`. `tokens` are the
+    /// tokens of the literal. If the literal is a byte string, reports it and leaves the path
+    /// unchanged.
     fn add_path(&mut self, tokens: Tokens<'_, 's>, literal: &Literal<'s>) -> Result<(), Memory>
         ensures { OnOk result (IsReport
             (held_path (tokens_of tokens.entry) (parser_view self.old)
@@ -126,8 +127,8 @@ impl<'s> Parser<'s> {
         Ok(())
     }
 
-    /// Sets the path of the exported state diagram from the argument `export_dir`, or reports the
-    /// fault of that argument.
+    /// Sets the path of the exported state diagram from the argument `export_dir`, and reports the
+    /// argument's faults.
     fn add_export(&mut self, name: Ident<'s>, value: &NestedValue<'_, 's>) -> Result<(), Memory>
         ensures { OnOk result (IsReport
             (export_report (ident_slice name.entry) (value_of value.now) (parser_view self.old))
@@ -143,8 +144,8 @@ impl<'s> Parser<'s> {
         Ok(())
     }
 
-    /// Appends the subpattern `name` with the literal that `tokens` consist of. Reports tokens that
-    /// are not a string or byte string, and appends nothing.
+    /// Appends the subpattern `name` with the literal that `tokens` spell. If `tokens` are not a
+    /// string or byte string, reports them and appends nothing.
     fn set_subpattern(&mut self, name: Ident<'s>, tokens: Tokens<'_, 's>) -> Result<(), Memory>
         ensures { OnOk result (IsReport
             (subpattern_set (ident_slice name.entry) (tokens_of tokens.entry)
@@ -158,7 +159,7 @@ impl<'s> Parser<'s> {
         Ok(())
     }
 
-    /// Appends the subpattern of the argument `subpattern`, or reports the fault of that argument.
+    /// Appends the subpattern of the argument `subpattern`, or reports the argument's fault.
     fn add_subpattern(&mut self, name: Ident<'s>, value: &NestedValue<'_, 's>) -> Result<(), Memory>
         ensures { OnOk result (IsReport
             (subpattern_report (ident_slice name.entry) (value_of value.now)
@@ -172,7 +173,7 @@ impl<'s> Parser<'s> {
         Ok(())
     }
 
-    /// Sets the error type to `error`, the value of `tokens`. Reports and replaces a former one.
+    /// Sets the error type to `error`, the value of `tokens`, and reports a second error type.
     fn set_error(&mut self, tokens: Tokens<'_, 's>, error: ErrorType<'s>) -> Result<(), Memory>
         ensures { OnOk result (IsReport
             (error_set (tokens_of tokens.entry) (error_view error.entry) (parser_view self.old))
@@ -184,8 +185,8 @@ impl<'s> Parser<'s> {
         Ok(())
     }
 
-    /// Sets the error type from the argument `error` that is not `error(..)`, or reports the fault
-    /// of that argument.
+    /// Sets the error type from an argument `error` other than `error(..)`, and reports the
+    /// argument's faults.
     fn add_error_alone(
         &mut self,
         name: Ident<'s>,
@@ -205,8 +206,9 @@ impl<'s> Parser<'s> {
         Ok(())
     }
 
-    /// Sets the error type from `error(..)`, or reports the fault of that argument. Returns whether
-    /// the arguments after it are read: `false` if the group does not begin with a type.
+    /// Sets the error type from `error(..)`, and reports the argument's faults. Returns whether the
+    /// following arguments of `logos(..)` are read: `false` if the group does not begin with a
+    /// type.
     fn add_error_group(&mut self, name: Ident<'s>, group: Tokens<'_, 's>) -> Result<bool, Memory>
         ensures { IfOk result (λ continues. ReadsError (ident_slice name.entry)
             (parser_view self.old) (parser_view self.new) self.old.errors self.new.errors
@@ -219,8 +221,8 @@ impl<'s> Parser<'s> {
         Ok(true)
     }
 
-    /// Sets the error type from the argument `error`, or reports the fault of that argument.
-    /// Returns whether the arguments after it are read.
+    /// Sets the error type from the argument `error`, and reports the argument's faults. Returns
+    /// whether the following arguments are read.
     fn add_error(&mut self, name: Ident<'s>, value: &NestedValue<'_, 's>) -> Result<bool, Memory>
         ensures { IfOk result (λ continues. ReadsError (ident_slice name.entry)
             (parser_view self.old) (parser_view self.new) self.old.errors self.new.errors
@@ -233,8 +235,8 @@ impl<'s> Parser<'s> {
         Ok(true)
     }
 
-    /// Sets the type of the parameter that the argument `type` names, or reports the fault of that
-    /// argument.
+    /// Assigns a type to the parameter that the argument `type` names, and reports the argument's
+    /// faults.
     fn add_type(&mut self, name: Ident<'s>, value: &NestedValue<'_, 's>) -> Result<(), Memory>
         ensures { OnOk result (ReadsType (ident_slice name.entry)
             (parser_view self.old) (parser_view self.new) self.old.errors self.new.errors
@@ -249,8 +251,8 @@ impl<'s> Parser<'s> {
         Ok(())
     }
 
-    /// Appends the definition of `skip "..."` with the literal `token`. Reports a literal that is
-    /// not a string or byte string, and appends nothing.
+    /// Appends the definition of `skip "..."` with the literal `token`. If the literal is not a
+    /// string or byte string, reports it and appends nothing.
     fn skip_text(&mut self, token: token::Literal<'s>) -> Result<(), Memory>
         ensures { OnOk result (IsReport
             (map_report (skip_plain (parser_view self.old))
@@ -263,7 +265,7 @@ impl<'s> Parser<'s> {
         Ok(())
     }
 
-    /// Appends the definition in `skip(..)`, or reports that it is missing.
+    /// Appends the definition in `skip(..)`, or reports that the definition is missing.
     fn skip_group(&mut self, tokens: Tokens<'_, 's>) -> Result<(), Memory>
         ensures { OnOk result (IsReport
             (and_then (definition_report (tokens_of tokens.entry))
@@ -277,7 +279,7 @@ impl<'s> Parser<'s> {
         Ok(())
     }
 
-    /// Appends the definition of the argument `skip`, or reports the fault of that argument.
+    /// Appends the definition of the argument `skip`, and reports the argument's faults.
     fn add_skip(&mut self, name: Ident<'s>, value: &NestedValue<'_, 's>) -> Result<(), Memory>
         ensures { OnOk result (IsReport
             (skip_report (ident_slice name.entry) (value_of value.now) (parser_view self.old))
@@ -291,8 +293,8 @@ impl<'s> Parser<'s> {
         Ok(())
     }
 
-    /// Adds the argument `utf8`, `extras` or `crate` to the options, and reports `source` and
-    /// unknown names.
+    /// Adds the argument `utf8`, `extras` or `crate` to the options. Reports the argument `source`,
+    /// and any argument with an unknown name.
     fn add_setting(&mut self, name: Ident<'s>, value: &NestedValue<'_, 's>) -> Result<(), Memory>
         ensures { OnOk result (IsReport
             (setting_report (ident_slice name.entry) (value_of value.now) (parser_view self.old))
@@ -313,7 +315,8 @@ impl<'s> Parser<'s> {
         report_unknown_logos(name, &mut self.errors)
     }
 
-    /// Adds a named argument other than `error` and `type` to the options, and reports its faults.
+    /// Adds a named argument other than `error` and `type` to the options, and reports the
+    /// argument's faults.
     fn add_plain(&mut self, name: Ident<'s>, value: &NestedValue<'_, 's>) -> Result<(), Memory>
         ensures { OnOk result (IsReport
             (option_report (ident_slice name.entry) (value_of value.now) (parser_view self.old))
@@ -331,8 +334,8 @@ impl<'s> Parser<'s> {
         self.add_setting(name, value)
     }
 
-    /// Adds a named argument to the options, and reports its faults. Returns whether the arguments
-    /// after it are read.
+    /// Adds a named argument to the options, and reports the argument's faults. Returns whether the
+    /// following arguments are read.
     fn add_named(&mut self, name: Ident<'s>, value: &NestedValue<'_, 's>) -> Result<bool, Memory>
         ensures { IfOk result (ReadsPiece
             (parser_view self.old) (parser_view self.new) self.old.errors self.new.errors
@@ -349,8 +352,8 @@ impl<'s> Parser<'s> {
         Ok(true)
     }
 
-    /// Adds an argument to the options, and reports its faults. Returns whether the arguments after
-    /// it are read.
+    /// Adds an argument to the options, and reports the argument's faults. Returns whether the
+    /// following arguments are read.
     fn add_piece(&mut self, piece: Nested<'_, 's>) -> Result<bool, Memory>
         ensures { IfOk result (ReadsPiece
             (parser_view self.old) (parser_view self.new) self.old.errors self.new.errors

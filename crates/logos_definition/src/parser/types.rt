@@ -24,8 +24,8 @@ fn report_const(span: Span, errors: &mut Errors) -> Result<(), Memory>
 }
 
 impl<'s> Parser<'s> {
-    /// Declares a generic parameter: a lifetime or a type. Reports a constant, and a second
-    /// lifetime.
+    /// Declares a generic parameter: a lifetime or a type. Reports a constant parameter and a
+    /// second lifetime.
     fn add_parameter(&mut self, parameter: Parameter<'_, 's>) -> Result<(), Memory>
         ensures { OnOk result (IsReport
             (parameter_report parameter.entry.kind (ident_slice parameter.entry.name)
@@ -40,8 +40,8 @@ impl<'s> Parser<'s> {
         }
     }
 
-    /// Declares a generic parameter: a lifetime, or a type by its name. Reports a constant, and a
-    /// second lifetime. The faults have the span of the whole parameter.
+    /// Declares a generic parameter: a lifetime, or a type by its name. Reports a constant
+    /// parameter and a second lifetime. The faults have the span of the whole parameter.
     ///
     /// # Errors
     ///
@@ -58,8 +58,8 @@ impl<'s> Parser<'s> {
     }
 
     /// Returns the generic arguments that follow the enum's name: `'s` if a lifetime is declared,
-    /// and then the types given to the declared parameters, in order of declaration. Returns `None`
-    /// if there are none. Reports each parameter without a type, and leaves it out.
+    /// and then the types assigned to the declared parameters, in the order of declaration. Returns
+    /// `None` if there are no arguments. Reports each parameter without a type, and leaves it out.
     ///
     /// # Errors
     ///
@@ -88,10 +88,12 @@ impl<'s> Parser<'s> {
         Ok(got)
     }
 
-    /// Returns `written`, a type, with its declared parameters replaced by the types given to them,
-    /// except for each parameter whose type contains that parameter, and with its lifetimes set to
-    /// `'s`. If too many types are nested in the result, reports that at `span` and returns the
-    /// type as written. Each call searches anew for the parameters that are excepted.
+    /// Returns the type `written` with each declared parameter replaced by the type assigned to it,
+    /// and with each lifetime replaced by `'s`. A parameter is not replaced if the type assigned to
+    /// it contains the parameter itself. Each call searches for these parameters anew.
+    ///
+    /// If too many types are nested in the result, reports the nesting at `span` and returns the
+    /// type as written.
     ///
     /// # Errors
     ///

@@ -67,8 +67,8 @@ fn explore<M: Machine>(
     })
 }
 
-/// Returns an input: the bytes that lead to the pending point of `reading`, the byte of `reading`,
-/// and the least bytes that complete the character with this `rest`.
+/// Returns the input that consists of the bytes that lead to the pending point of `reading`, the
+/// byte of `reading`, and the least bytes that complete the character with the rest `rest`.
 ///
 /// # Errors
 ///
@@ -90,7 +90,8 @@ fn way_by(
     Ok(bytes)
 }
 
-/// Adds to `cover` an input, and the steps that the machine takes on it from the point `start`.
+/// Adds an input to `cover`, with the steps that the machine takes on the input from the point
+/// `start`.
 ///
 /// # Errors
 ///
@@ -111,8 +112,8 @@ fn add_input<M: Machine>(
     Ok(())
 }
 
-/// Adds to `cover` an input that takes the step from a pending point by a byte, unless there is no
-/// such step or an earlier input takes the step.
+/// Adds an input to `cover` that takes the step from a pending point by a byte. Adds nothing if
+/// there is no such step or an earlier input takes it.
 ///
 /// # Errors
 ///
@@ -153,8 +154,9 @@ fn cover_byte<M: Machine>(
     Ok(())
 }
 
-/// Adds to `cover` an input that ends at the pending point `number`, unless no input can end there,
-/// the point is not a goal, or an earlier input ends there.
+/// Adds an input to `cover` that ends at the pending point with the number `number`. Adds nothing
+/// if no input can end at this point, if the point is not a goal, or if an earlier input ends at
+/// this point.
 ///
 /// # Errors
 ///
@@ -194,7 +196,7 @@ fn cover_end<M: Machine>(
     Ok(())
 }
 
-/// Adds to `cover` inputs that take all steps from the pending point `number` of `explored`: the
+/// Adds inputs to `cover` that take all steps from the pending point with the number `number`: the
 /// steps by each byte, and the end of the input.
 ///
 /// # Errors
@@ -226,11 +228,12 @@ fn cover_pending<M: Machine>(
 }
 
 /// Returns inputs that together take each step that a machine takes over any input from the point
-/// `start`: the steps by a byte from a point to the next, and the end of an input at a goal. Each
-/// input takes a step that no earlier input takes.
+/// `start`: each step by a byte from one point to the next, and each end of an input at a goal.
+/// Each input takes a step that no earlier input takes.
 ///
-/// If `utf8` holds, inputs are UTF-8, otherwise any bytes. The search stores each step, and each
-/// visited point with its predecessor and the byte that leads from there.
+/// If `utf8` is `true`, only inputs in UTF-8 are considered. The search stores each step. It also
+/// stores each visited point with its predecessor, and the byte that leads from the predecessor to
+/// the point.
 ///
 /// # Errors
 ///

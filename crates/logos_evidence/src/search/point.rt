@@ -12,7 +12,8 @@ pub struct Point {
     pub begun: bool,
     /// Whether a condition that a goal requires, such as a match, was met on the way.
     pub met: bool,
-    /// A property of the last match on the way, such as whether it is a match of the searched leaf.
+    /// A property of the last match on the way, such as whether it is a match of the leaf that is
+    /// searched for.
     pub last: bool,
 }
 
@@ -25,11 +26,12 @@ pub trait Machine {
 
     ghost goal: { Self → At → Bool };
 
-    /// Returns the point to which `byte` leads from the point `at`, or `None` if it leads to none.
+    /// Returns the point to which `byte` leads from the point `at`, or `None` if there is no such
+    /// point.
     fn next(&self, at: Point, byte: u8) -> Option<Point>
         ensures { result ≡ leads self.now at byte };
 
-    /// Returns whether the point `at` is a goal, at which an input may end that a search finds.
+    /// Returns whether the point `at` is a goal, at which a search for an input ends.
     fn is_goal(&self, at: Point) -> bool
         ensures { result ≡ goal self.now at };
 }

@@ -7,7 +7,7 @@ use crate::search::point::{Machine, Point};
 use indexmap::IndexSet;
 use std::alloc::AllocError;
 
-/// A step of a machine over an input: a byte leads from a point to another one, or the input ends.
+/// A step of a machine over an input: a byte leads from one point to the next, or the input ends.
 #[derive(Clone, Copy, PartialEq, Eq, Hash)]
 pub(crate) struct InputStep {
     pub(crate) from: Point,
@@ -17,7 +17,7 @@ pub(crate) struct InputStep {
     pub(crate) ends: bool,
 }
 
-/// Adds a step to `steps`, if the set does not contain it. Returns whether the step is new.
+/// Adds a step to `steps` if the set does not contain the step. Returns whether the step is new.
 ///
 /// # Errors
 ///
@@ -34,8 +34,9 @@ pub(crate) fn add_step(steps: &mut IndexSet<InputStep>, step: InputStep) -> Resu
     Ok(is_new)
 }
 
-/// Adds to `steps` the steps that a machine takes from the point `start` over an input: up to the
-/// first byte that leads to no point, or to the end of the input, which is a step too.
+/// Adds to `steps` the steps that a machine takes over an input from the point `start`, up to the
+/// first byte that leads to no point. If there is no such byte, the end of the input is also added
+/// as a step.
 ///
 /// # Errors
 ///

@@ -6,18 +6,18 @@ ghost use Rattle.simdutf8.specs.Steps as steps;
 
 use std::alloc::AllocError;
 
-/// The bytes that may complete the character which the last bytes of an input begin.
+/// The bytes that can complete the last character of an input.
 #[derive(Clone, Copy, PartialEq, Eq, Hash)]
 pub struct Rest {
     /// The least byte that may come next, if `count` is not 0.
     pub low: u8,
     /// The greatest byte that may come next, if `count` is not 0.
     pub high: u8,
-    /// The number of bytes that the character lacks, which is 0 between characters.
+    /// The number of bytes that the character lacks. It is 0 between characters.
     pub count: usize,
 }
 
-/// Returns the rest of a character that any `count` continuation bytes complete.
+/// Returns the rest of a character that is completed by any `count` continuation bytes.
 pub(crate) fn more(count: usize) -> Rest
     ensures { result ≡ rests.more count }
 {
@@ -86,7 +86,8 @@ fn begun(byte: u8) -> Option<Rest>
     None
 }
 
-/// Returns the rest of the character after `byte`, or `None` if UTF-8 has no such byte there.
+/// Returns the rest of the character after `byte` is read, or `None` if UTF-8 does not allow `byte`
+/// at this point.
 fn rest_after(rest: Rest, byte: u8) -> Option<Rest>
     ensures { result ≡ rests.rest_after rest byte }
 {
@@ -99,8 +100,8 @@ fn rest_after(rest: Rest, byte: u8) -> Option<Rest>
     None
 }
 
-/// Returns the rest of the character after `byte`, or `None` if UTF-8 has no such byte there.
-/// Returns `rest` unchanged if `utf8` is `false`.
+/// Returns the rest of the character after `byte` is read, or `None` if UTF-8 does not allow `byte`
+/// at this point. Returns `rest` unchanged if `utf8` is `false`.
 pub(crate) fn rest_by(utf8: bool, rest: Rest, byte: u8) -> Option<Rest>
     ensures { result ≡ rests.rest_by utf8 rest byte }
 {
@@ -111,7 +112,7 @@ pub(crate) fn rest_by(utf8: bool, rest: Rest, byte: u8) -> Option<Rest>
     }
 }
 
-/// Appends to `bytes` the least bytes that complete a character with this rest.
+/// Appends to `bytes` the least bytes that complete a character with the rest `rest`.
 ///
 /// # Errors
 ///

@@ -12,7 +12,7 @@ use crate::search::utf8::{Rest, more, rest_by};
 use indexmap::IndexSet;
 use std::alloc::{AllocError, Global};
 
-/// A point, with the rest of the character that the last bytes before it begin.
+/// A point, with the rest of the character that is being read at the point.
 #[derive(Clone, Copy, PartialEq, Eq, Hash)]
 pub(crate) struct PendingPoint {
     pub(crate) point: Point,
@@ -37,7 +37,7 @@ pub(crate) struct Visits {
     pub(crate) ways: Vec<Visit>,
 }
 
-/// Returns the pending point before the first byte, at `point`.
+/// Returns the pending point at `point`, before the first byte.
 pub(crate) fn first_pending(point: Point) -> PendingPoint
     ensures { result ≡ points.pending_at point (more 0) }
 {
@@ -48,7 +48,7 @@ pub(crate) fn first_pending(point: Point) -> PendingPoint
 }
 
 /// Returns the pending point to which `byte` leads from `at`, or `None` if the machine has no such
-/// step, or if `utf8` holds and UTF-8 has no such byte there.
+/// step. Also returns `None` if `utf8` is `true` and UTF-8 does not allow `byte` at this point.
 pub(crate) fn advance<M: Machine>(
     machine: &M,
     utf8: bool,
@@ -62,7 +62,8 @@ pub(crate) fn advance<M: Machine>(
     Some(PendingPoint { point, rest })
 }
 
-/// Adds to `visits` a pending point with the step `way` to it, if it was not visited before.
+/// Adds a pending point to `visits`, with the step `way` to the point, unless the point was visited
+/// before.
 ///
 /// # Errors
 ///
@@ -78,8 +79,8 @@ fn meet(visits: &mut Visits, pending: PendingPoint, way: Visit) -> Result<(), Al
     Ok(())
 }
 
-/// Adds to `visits` the pending point to which the byte of `way` leads from `at`, if there is one
-/// and it was not visited before.
+/// Adds to `visits` the pending point to which the byte of `way` leads from `at`. Adds nothing if
+/// there is no such point or it was visited before.
 ///
 /// # Errors
 ///
@@ -115,7 +116,8 @@ fn meet_next<M: Machine>(
     Ok(())
 }
 
-/// Adds to `visits` the pending points to which bytes lead from the pending point `number`.
+/// Adds to `visits` the pending points to which bytes lead from the pending point with the number
+/// `number`.
 ///
 /// # Errors
 ///
@@ -170,7 +172,7 @@ pub(crate) fn pending_of(visits: &Visits, number: usize) -> PendingPoint
     }
 }
 
-/// Returns visits with only the first pending point.
+/// Returns visits that contain only the pending point `start`.
 ///
 /// # Errors
 ///
@@ -190,7 +192,8 @@ pub(crate) fn first_visits(alloc: Global, start: PendingPoint) -> Result<Visits,
     Ok(Visits { points, ways })
 }
 
-/// Returns the bytes that lead from the first pending point to the pending point `number`.
+/// Returns the bytes that lead from the first pending point to the pending point with the number
+/// `number`.
 ///
 /// # Errors
 ///

@@ -1,4 +1,5 @@
-//! Makes forks and fast loops. `states` calls it for each state, and `nodes` for single states.
+//! Makes forks and fast loops. `states` calls this module for each state, and `nodes` calls it for
+//! single states.
 
 ghost use Rattle.std.specs.Prelude.{◌≡◌, ◌<◌, ◌≤◌, ◌↔◌, ◌&&◌, ◌==◌, ℕ, true, IfOk, OnOk, OnErr, IsTrue, [], ◌∷◌, length, map, option_map, find, nat_le, slice_index, None};
 ghost use Rattle.logos_generator.specs.Imports.{All, flat_map, option_or, ranges_of, has_byte, AreSeparated, comparison_of, condition_of, branch_of, entry_of, fork_of, edge_of, state_number, hit, leads_beside, Extends, IsConditionOf, AreBranchesOf, IsForkOf, IsLoopOf, cost, numbered, loop_uses, condition_uses, branch_uses, fork_uses, fork_tables, jump_table, with_tables, AddsBranch};
@@ -11,8 +12,8 @@ use logos_code::code::{Condition, Fork, NOWHERE};
 use logos_graph::graph::State;
 use std::alloc::{AllocError, Global};
 
-/// Returns the number of the test of the edge from `state` back to it, or `None` if there is no
-/// such edge. Adds the test to `tests` if it is new.
+/// Returns the number of the test for the edge from `state` back to itself, or `None` if there is
+/// no such edge. Adds the test to `tests` if it is new.
 pub(super) fn maybe_impl_fast_loop(
     tests: &mut IndexSet<[bool; 256]>,
     edges: &[(ByteClass, State)],
@@ -30,7 +31,8 @@ pub(super) fn maybe_impl_fast_loop(
     }
 }
 
-/// Returns the bytes of the first edge that leads back to `state`, or `None` if no edge does.
+/// Returns the bytes of the first edge that leads back to `state`, or `None` if there is no such
+/// edge.
 fn edge_back<'e>(edges: &'e [(ByteClass, State)], state: usize) -> Option<&'e ByteClass>
     ensures { option_map (λ class. ranges_of class.now) result
         ≡ option_map (λ edge. edge.0) (find (λ edge. edge.1 == state) (map edge_of edges.now)) }
@@ -43,9 +45,9 @@ fn edge_back<'e>(edges: &'e [(ByteClass, State)], state: usize) -> Option<&'e By
     None
 }
 
-/// Returns the fork of `state`, without the edge back to it: a jump table if there are more than
-/// two edges, that one included, and conditions otherwise. Adds the tests and the jump table to
-/// `tables` if they are new.
+/// Returns the fork of `state`, without the edge from `state` back to itself. The fork is a jump
+/// table if there are more than two edges, including the edge back, and conditions otherwise. Adds
+/// the tests and the jump table to `tables` if they are new.
 pub(super) fn impl_fork(
     alloc: Global,
     tables: &mut NodeTables,
@@ -70,7 +72,7 @@ pub(super) fn impl_fork(
     Ok(Fork::Conditions(conditions_of(alloc, &mut tables.tests, edges, state)?))
 }
 
-/// Returns the jump table of the edges of `state`, without the edge back to it.
+/// Returns the jump table of the edges of `state`, without the edge from `state` back to itself.
 fn table_of(edges: &[(ByteClass, State)], state: usize) -> [u32; 256]
     requires { All (λ edge. state_number edge.1 < NOWHERE) edges.now }
     ensures long { length result ≡ 256 }
@@ -85,8 +87,8 @@ fn table_of(edges: &[(ByteClass, State)], state: usize) -> [u32; 256]
     table
 }
 
-/// Writes the target of an edge for each byte of the edge that has no target yet, unless the edge
-/// leads back to `state`.
+/// Writes the target of an edge to the entries of the edge's bytes that have no target yet. Does
+/// nothing if the edge leads back to `state`.
 fn fill_edge(table: &mut [u32; 256], edge: &(ByteClass, State), state: usize)
     requires { state_number edge.now.1 < NOWHERE }
     ensures { (b : ℕ) → b < 256 → entry_of (slice_index table.new b) ≡ option_or
@@ -97,7 +99,7 @@ fn fill_edge(table: &mut [u32; 256], edge: &(ByteClass, State), state: usize)
     }
 }
 
-/// Writes `target` for each byte of the class that has no target yet.
+/// Writes `target` to the entries of the class's bytes that have no target yet.
 fn fill_class(table: &mut [u32; 256], class: &ByteClass, target: u32)
     requires { target < NOWHERE }
     ensures { (b : ℕ) → b < 256 → entry_of (slice_index table.new b)
@@ -108,7 +110,7 @@ fn fill_class(table: &mut [u32; 256], class: &ByteClass, target: u32)
     }
 }
 
-/// Writes `target` for each byte from `first` to `last` that has no target yet.
+/// Writes `target` to the entries of the bytes from `first` to `last` that have no target yet.
 fn fill_range(table: &mut [u32; 256], first: u8, last: u8, target: u32)
     requires { target < NOWHERE }
     ensures { (b : ℕ) → b < 256 → entry_of (slice_index table.new b)
@@ -119,7 +121,7 @@ fn fill_range(table: &mut [u32; 256], first: u8, last: u8, target: u32)
     }
 }
 
-/// Returns the entry, or `target` if the entry leads nowhere.
+/// Returns `entry`, or `target` if `entry` leads nowhere.
 fn filled(entry: u32, target: u32) -> u32
     requires { target < NOWHERE }
     ensures { entry_of result ≡ hit true target (entry_of entry) }
@@ -127,8 +129,8 @@ fn filled(entry: u32, target: u32) -> u32
     if entry == NOWHERE { target } else { entry }
 }
 
-/// Returns the conditions and targets of the edges of `state`, without the edge back to it. Adds
-/// the tests to `tests` if they are new.
+/// Returns the conditions and targets of the edges of `state`, without the edge from `state` back
+/// to itself. Adds the tests to `tests` if they are new.
 fn conditions_of(
     alloc: Global,
     tests: &mut IndexSet<[bool; 256]>,

@@ -1,4 +1,5 @@
-//! Makes the nodes of a code one by one. Users of the library call it; `generate` does not.
+//! Makes the nodes of a code one by one. Users of the library call these functions, but `generate`
+//! does not.
 
 ghost use Rattle.std.specs.Prelude.{◌≡◌, ◌≤◌, ◌<◌, OnOk, OnErr, IfOk, length};
 ghost use Rattle.logos_generator.specs.Views.{ranges_of, graph_state_of, state_number, code_leaf_value, leaf_value, left_out, bit_tables_of, IsCodable, Continues, MakesFork, MakesLoop, MakesLoopOver};
@@ -20,21 +21,21 @@ pub struct FastLoop {
     pub test: usize,
 }
 
-/// The macro that ends a match attempt. After a match that is skipped, the next attempt begins in
-/// the state with the number `restart`.
+/// The macro that ends a match attempt. After a skipped match, the next match attempt begins in the
+/// state with the number `restart`.
 #[derive(Clone, Copy, Debug, PartialEq, Eq)]
 pub struct TakeAction {
     pub restart: usize,
 }
 
-/// The macro of fast loops over blocks of `unroll_factor` bytes.
+/// The macro for fast loops over blocks of `unroll_factor` bytes.
 #[derive(Clone, Copy, Debug, PartialEq, Eq)]
 pub struct FastLoopMacro {
     pub unroll_factor: usize,
 }
 
-/// Returns the macro of fast loops over blocks of `unroll_factor` bytes. `unroll_factor` must be at
-/// least 1.
+/// Returns the macro for fast loops over blocks of `unroll_factor` bytes. `unroll_factor` must be
+/// at least 1.
 pub fn fast_loop_macro(unroll_factor: usize) -> FastLoopMacro
     requires { 1 ≤ unroll_factor }
     ensures { result ≡ record { unroll_factor = unroll_factor } }
@@ -43,9 +44,9 @@ pub fn fast_loop_macro(unroll_factor: usize) -> FastLoopMacro
 }
 
 impl<'s> Generator<'_, 's> {
-    /// Returns the fork of `state` with the edges of `state_data`, without the edge back to the
-    /// state if `ignore_self` is `true`. New tests and a new jump table are numbered after those of
-    /// the nodes made before.
+    /// Returns the fork of `state` with the edges of `state_data`. Leaves out the edge from `state`
+    /// back to itself if `ignore_self` is `true`. New tests and a new jump table are numbered after
+    /// the tests and jump tables of earlier nodes.
     ///
     /// # Errors
     ///
@@ -74,9 +75,9 @@ impl<'s> Generator<'_, 's> {
         }
     }
 
-    /// Returns the fast loop over the edge from `state`, a state of the graph, back to it, or
-    /// `None` if there is no such edge. A new test is numbered after those of the nodes made
-    /// before.
+    /// Returns the fast loop over the edge from `state` back to itself, or `None` if there is no
+    /// such edge. `state` must be a state of the graph. A new test is numbered after the tests of
+    /// earlier nodes.
     ///
     /// # Errors
     ///
@@ -99,7 +100,7 @@ impl<'s> Generator<'_, 's> {
     }
 
     /// Returns the fast loop over an edge with the bytes of `self_edge`. A new test is numbered
-    /// after those of the nodes made before.
+    /// after the tests of earlier nodes.
     ///
     /// # Errors
     ///
@@ -117,7 +118,7 @@ impl<'s> Generator<'_, 's> {
         Ok(FastLoop { test })
     }
 
-    /// Returns the code's leaf for `leaf`, with copies of the leaf's kind and callback.
+    /// Returns the code's leaf for `leaf`, with copies of the kind and the callback of `leaf`.
     ///
     /// # Errors
     ///
@@ -128,8 +129,8 @@ impl<'s> Generator<'_, 's> {
         Ok(leaf_made(leaf)?)
     }
 
-    /// Returns the macro that ends a match attempt. After a skipped match it restarts in the root,
-    /// state 0.
+    /// Returns the macro that ends a match attempt. After a skipped match, the next match attempt
+    /// begins in the root, which is state 0.
     pub fn take_action_macro(&self) -> TakeAction
         ensures { result ≡ record { restart = 0 } }
     {
@@ -149,8 +150,8 @@ impl<'s> Generator<'_, 's> {
     }
 
     /// Returns the jump tables of all forks made so far, in the order of their numbers. After
-    /// `generate`, these are the jump tables of the code. An entry is the number of the state to
-    /// which the byte leads, or `NOWHERE`. `Fork::Table(k)` refers to table `k`.
+    /// `generate`, these are the jump tables of the code. The entry of a byte is the number of the
+    /// state to which the byte leads, or `NOWHERE`. `Fork::Table(k)` refers to table `k`.
     ///
     /// # Errors
     ///
@@ -162,8 +163,8 @@ impl<'s> Generator<'_, 's> {
     }
 }
 
-/// Returns the number of the state to which a fork has no edge: the state itself if `ignore_self`
-/// is `true`, and otherwise a number that no state has.
+/// Returns the number of the state to which a fork leaves out all edges: the state itself if
+/// `ignore_self` is `true`, and otherwise a number that no state has.
 fn left_out(ignore_self: bool, state: usize) -> usize
     ensures { result ≡ left_out ignore_self state }
 {

@@ -1,4 +1,4 @@
-//! Makes the states of a code from those of a graph. `Generator::generate` calls it.
+//! Turns the states of a graph into the states of a code. `Generator::generate` calls `code_of`.
 
 ghost use Rattle.std.specs.Prelude.{◌≡◌, ◌<◌, [], IfOk, OnOk, length, map, option_map};
 ghost use Rattle.logos_generator.specs.Imports.{All, range_with_len, RunsAs, mark_made, mark_of, state_of, code_leaf_value, leaf_value, IsFinished, Extends, IsStateOf, HasNodesOf, numbered, state_uses, tests_of, uses_from, fork_tables, tables_from, with_tables, jump_tables_of, state_number, state_type_of, graph_state_of, states_left, leaf_use, AreStatesOf, AreTablesOf, IsCodable};
@@ -12,8 +12,8 @@ use logos_code::make_code;
 use logos_graph::graph::{Graph, State, StateData, StateType, States};
 use std::alloc::{AllocError, Global};
 
-/// Returns the code of a graph, with this header. `states` are the states of the graph. Adds the
-/// tests and jump tables of the code to `tables`, which must be empty.
+/// Returns the code of a graph with the header `header`. `states` are the states of the graph. Adds
+/// the tests and jump tables of the code to `tables`, which must be empty.
 pub(super) fn code_of<'s>(
     alloc: Global,
     tables: &mut NodeTables,
@@ -84,8 +84,8 @@ fn tables_made(
     })
 }
 
-/// Returns the states of the code, in the order of the graph's states. Adds their tests and jump
-/// tables to `tables` if they are new.
+/// Returns the states of the code, in the order of the graph's states. Adds the tests and jump
+/// tables of the states to `tables` if they are new.
 fn states_of(
     alloc: Global,
     tables: &mut NodeTables,
@@ -108,8 +108,8 @@ fn states_of(
     Ok(made)
 }
 
-/// Returns the code's state for `state`, the state `s` of the graph. Adds its tests and its jump
-/// table to `tables` if they are new.
+/// Returns the code's state for `state`, which has the index `s` in the graph. Adds the tests and
+/// the jump table of the state to `tables` if they are new.
 fn state_made(
     alloc: Global,
     tables: &mut NodeTables,
@@ -136,7 +136,7 @@ fn state_made(
     })
 }
 
-/// Returns the number of a state, or `None` if there is no state.
+/// Returns the number of a state, or `None` if `state` is `None`.
 fn number_of(state: Option<State>) -> Option<usize>
     ensures { result ≡ option_map state_number state }
 {
@@ -146,8 +146,8 @@ fn number_of(state: Option<State>) -> Option<usize>
     }
 }
 
-/// Returns the mark of a state, or `None` if it has none. An early mark takes precedence over a
-/// late one.
+/// Returns the mark of a state, or `None` if the state has no mark. An early mark takes precedence
+/// over a late mark.
 fn mark_made(state_type: &StateType) -> Option<Mark>
     ensures { option_map mark_of result ≡ mark_made (state_type_of state_type.now) }
 {

@@ -1,5 +1,5 @@
-//! Makes tests of bytes by the bits of tables. `fork` and `nodes` add tests, and `states` and
-//! `nodes` make the tables of the tests.
+//! Collects tests of bytes, and makes the tables whose bits are the results of the tests. `fork`
+//! and `nodes` add tests, and `states` and `nodes` make the tables.
 
 ghost use Rattle.std.specs.Prelude.{◌≡◌, ◌+◌, ◌*◌, ◌<◌, ◌≤◌, ◌/◌, ◌∷◌, [], ℕ, Some, IfOk, OnOk, OnErr, length, slice_get, if◌then◌else◌};
 ghost use Rattle.logos_generator.specs.Imports.{beq, pointwise, insert_key, ranges_of, passes_test, Extends, IsTest, tests_byte, numbered, bits_from, bit_table, bit_tables_of};
@@ -8,7 +8,7 @@ use indexmap::IndexSet;
 use logos_byte_class::byte_class::ByteClass;
 use std::alloc::{AllocError, Global};
 
-/// Returns the number of the test for the bytes of the class, and adds the test to `tests` if it is
+/// Returns the number of the test for the bytes of the class. Adds the test to `tests` if it is
 /// new. Classes with the same bytes share a test.
 pub(super) fn add_test(
     tests: &mut IndexSet<[bool; 256]>,
@@ -24,7 +24,8 @@ pub(super) fn add_test(
     Ok(k)
 }
 
-/// Returns the number of the test for this set of bytes, and adds the test to `tests` if it is new.
+/// Returns the number of the test for the set of bytes `set`. Adds the test to `tests` if it is
+/// new.
 fn add_set(tests: &mut IndexSet<[bool; 256]>, set: [bool; 256]) -> Result<usize, AllocError>
     ensures long { length set ≡ 256 }
     ensures keys { OnOk result (tests.new.keys ≡ insert_key (pointwise beq) tests.old.keys set) }
@@ -49,7 +50,7 @@ pub(super) fn tables_of(alloc: Global, tests: &[[bool; 256]]) -> Result<Vec<[u8;
     Ok(tables)
 }
 
-/// Returns the bit table with the number `j`.
+/// Returns the bit table at the index `j`.
 fn table_at(tests: &[[bool; 256]], j: usize) -> [u8; 256]
     requires { 8 * j < length tests.now }
     ensures { result ≡ bit_table tests.now j }
@@ -61,7 +62,7 @@ fn table_at(tests: &[[bool; 256]], j: usize) -> [u8; 256]
     table
 }
 
-/// Returns the entry of bit table `j` for the byte `b`: bit `i` is that of test `8 * j + i`.
+/// Returns the entry of bit table `j` for the byte `b`: bit `i` is the bit of test `8 * j + i`.
 fn entry_of(tests: &[[bool; 256]], j: usize, b: usize) -> u8
     requires table { 8 * j < length tests.now }
     requires byte { b < 256 }

@@ -27,8 +27,8 @@ fn automaton_of_none(alloc: Global) -> Result<Dfa, BuildError>
     }
 }
 
-/// Returns the automaton of the rules if none of their trees matches the empty string or has a
-/// look-around assertion before its first byte, and the automaton of no rules otherwise.
+/// Returns the automaton of `rules`, or the automaton of no rules if the tree of a rule matches the
+/// empty string or has a look-around assertion before its first byte.
 fn automaton(alloc: Global, rules: &[RuleView<'_>]) -> Result<Dfa, BuildError>
     requires { size_of (views.rules_of rules.now) ≤ 2 ^ 20 }
     ensures late { IfOk result (λ dfa. AllStart (views.rules_of rules.now) →
@@ -53,7 +53,7 @@ struct Findings {
     errors: Vec<GraphError>,
 }
 
-/// Returns the automaton and the faults of rules.
+/// Returns the automaton and the faults of `rules`.
 fn rule_findings(alloc: Global, rules: &[RuleView<'_>]) -> Result<Findings, BuildError>
     requires { size_of (views.rules_of rules.now) ≤ 2 ^ 20 }
     ensures found { IfOk result (λ made.
@@ -65,7 +65,7 @@ fn rule_findings(alloc: Global, rules: &[RuleView<'_>]) -> Result<Findings, Buil
     Ok(Findings { dfa, errors })
 }
 
-/// Returns the automaton and the faults of leaves.
+/// Returns the automaton and the faults of `leaves`.
 fn leaf_findings(alloc: Global, leaves: &[Leaf<'_>]) -> Result<Findings, BuildError>
     requires { size_of (rules_of leaves.now) ≤ 2 ^ 20 }
     ensures found { IfOk result (λ made.
@@ -76,7 +76,7 @@ fn leaf_findings(alloc: Global, leaves: &[Leaf<'_>]) -> Result<Findings, BuildEr
     rule_findings(alloc, &rules)
 }
 
-/// Returns the graph of leaves without faults, whose automaton is `dfa`.
+/// Returns the graph of `leaves`, which have no faults. `dfa` is the automaton of the leaves.
 fn finished<'s>(
     alloc: Global,
     leaves: Vec<Leaf<'s>>,
@@ -96,17 +96,19 @@ fn finished<'s>(
 }
 
 impl<'s> Graph<'s> {
-    /// Returns the graph of leaves, which are numbered in their order.
+    /// Returns the graph of `leaves`. The number of a leaf is its index in `leaves`.
     ///
-    /// The faults of the leaves are in `errors`: only the missing universal start if there is one;
-    /// otherwise only the leaves that match the empty string if there are any; otherwise all
-    /// ambiguous sets of leaves, ascending. If there is a fault, the graph has no states.
+    /// The faults of the leaves are in `errors`. If the universal start is missing, this is the
+    /// only fault. Otherwise, if leaves match the empty string, these leaves are the only faults.
+    /// Otherwise, all ambiguous sets of leaves are faults, in ascending order. If there is a fault,
+    /// the graph has no states.
     ///
     /// # Errors
     ///
-    /// Returns `LimitSize` exactly if the size of all trees exceeds 1,048,576; `LimitStates` only
-    /// if no pattern matches the empty string or has a look-around assertion before its first byte,
-    /// and the automaton would have more than 65,536 states; and `Memory` if memory runs out.
+    /// Returns `LimitSize` exactly if the size of all trees exceeds 1,048,576. Returns
+    /// `LimitStates` only if no pattern matches the empty string or has a look-around assertion
+    /// before its first byte, and the automaton would have more than 65,536 states. Returns
+    /// `Memory` if memory runs out.
     pub fn new(
         alloc: Global,
         leaves: Vec<Leaf<'s>>,

@@ -43,8 +43,8 @@ impl fmt::Display for State {
     }
 }
 
-/// Prints `accept(..)` for a late mark and then `early(..)` for an early mark, each with the number
-/// of its leaf and a space after it.
+/// Prints `accept(..)` for a late mark and then `early(..)` for an early mark. The parentheses
+/// contain the number of the mark's leaf. A space follows each mark.
 impl fmt::Display for StateType {
     fn fmt<W: fmt::Write>(&self, f: &mut fmt::Formatter<W>) -> fmt::Result {
         if let Some(leaf) = self.accept {
@@ -64,7 +64,7 @@ impl fmt::Display for StateType {
 #[derive(Clone, Copy)]
 struct StateLines<'g> {
     state: &'g StateData,
-    /// The indentation of the last line. The lines of edges have two spaces more.
+    /// The indentation of the last line. The lines of edges are indented by two more spaces.
     indent: &'static str,
 }
 
@@ -85,7 +85,7 @@ impl fmt::Display for StateLines<'_> {
     }
 }
 
-/// Prints the marks, and in the alternate form (`{:#}`) also the edges, with a line for each edge.
+/// Prints the marks. The alternate form (`{:#}`) also prints a line for each edge.
 impl fmt::Display for StateData {
     fn fmt<W: fmt::Write>(&self, f: &mut fmt::Formatter<W>) -> fmt::Result {
         if f.alternate() {
@@ -100,7 +100,7 @@ impl fmt::Display for StateData {
     }
 }
 
-/// The printed form of a graph: its states with their numbers, with a line for each edge.
+/// The printed form of a graph: its states with their numbers, and a line for each edge.
 #[derive(Clone, Copy)]
 pub(super) struct Listing<'g> {
     pub states: &'g [StateData],

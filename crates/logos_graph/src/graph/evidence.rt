@@ -1,4 +1,5 @@
-//! Distinguishes two states of a graph by bytes. Users of the library call it on a finished graph.
+//! Finds and checks bytes that distinguish two states of a graph. Called by users of the library on
+//! a finished graph.
 
 ghost use Rattle.std.specs.Prelude.{◌≡◌, ◌≢◌, ◌<◌, ◌↔◌, [], IsTrue, IfOk, length};
 ghost use Rattle.logos_graph.specs.Imports.{Distinguishes, IsEvidence};
@@ -8,8 +9,8 @@ use crate::distinction::{checks, evidence};
 use logos_token::error::Memory;
 use std::alloc::Global;
 
-/// Bytes that distinguish two states: they lead from the two states to states of different types,
-/// or lead to a state from exactly one of the two.
+/// Bytes that distinguish two states. The bytes lead from the two states to states of different
+/// types, or lead to a state from exactly one of the two states.
 #[derive(Debug, Drop)]
 pub struct Telling {
     pub bytes: Vec<u8>,
@@ -18,8 +19,9 @@ pub struct Telling {
 }
 
 impl Graph<'_> {
-    /// Returns bytes that distinguish the different states `s` and `t` of this graph, and whether
-    /// the end of the input follows these bytes. There are fewer bytes than states.
+    /// Returns bytes that distinguish the states `s` and `t` of this graph, which must be
+    /// different. The result also states whether the end of the input follows the bytes. There are
+    /// fewer bytes than states.
     ///
     /// # Errors
     ///
@@ -35,8 +37,8 @@ impl Graph<'_> {
         Ok(Telling { bytes, at_end })
     }
 
-    /// Returns whether `bytes`, with the end of the input after them if `at_end` is `true`,
-    /// distinguish the states `s` and `t` of this graph. Does not allocate.
+    /// Returns whether `bytes`, followed by the end of the input if `at_end` is `true`, distinguish
+    /// the states `s` and `t` of this graph. Does not allocate.
     pub fn checks(&self, s: State, t: State, bytes: &[u8], at_end: bool) -> bool
         requires s_in { s.0 < length self.now.states }
         requires t_in { t.0 < length self.now.states }

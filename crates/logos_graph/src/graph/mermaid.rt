@@ -13,8 +13,8 @@ use std::ops::RangeInclusive;
 /// The first character that is not ASCII.
 const ASCII: u32 = 128;
 
-/// Appends an ASCII character to a label: `"`, `\` and a line break as Mermaid spells them, and any
-/// other character unchanged.
+/// Appends an ASCII character to a label. Writes `"`, `\` and a line break as Mermaid spells them,
+/// and any other character unchanged.
 fn push_character(text: &mut String, character: char) -> Result<(), AllocError>
     requires { character < ASCII }
     ensures { OnOk result (string_bytes text.new
@@ -28,8 +28,8 @@ fn push_character(text: &mut String, character: char) -> Result<(), AllocError>
     }
 }
 
-/// Appends a byte to a label, as it is printed: an escape such as `\n`, `\"` or `\x1f`, or the byte
-/// itself if it needs no escape. Spells each character as `push_character` does.
+/// Appends the printed form of a byte to a label: an escape sequence such as `\n`, `\"` or `\x1f`,
+/// or the byte itself if no escape is needed. Spells each character as `push_character` does.
 fn push_byte(text: &mut String, byte: u8) -> Result<(), AllocError>
     ensures { OnOk result (string_bytes text.new
         ≡ string_bytes text.old ++ label_text (byte_text byte)) }
@@ -47,8 +47,8 @@ fn push_byte(text: &mut String, byte: u8) -> Result<(), AllocError>
     push_character(text, lower_digit(byte % 16))
 }
 
-/// Appends a range of bytes to a label: the first byte, and, if there are more, `..=` and the last
-/// byte.
+/// Appends a range of bytes to a label: the first byte, and also `..=` and the last byte if the
+/// range has more than one byte.
 fn push_range(text: &mut String, range: &RangeInclusive<u8>) -> Result<(), AllocError>
     ensures { OnOk result (string_bytes text.new
         ≡ string_bytes text.old ++ range_label (bounds range.now)) }
@@ -95,8 +95,7 @@ fn push_class(text: &mut String, class: &ByteClass) -> Result<(), AllocError>
     push_next_ranges(text, rest)
 }
 
-/// Appends a mark to a label: `mark`, which is the text before the leaf, the number of the leaf,
-/// and `)`.
+/// Appends a mark to a label: the text `mark`, the number of the leaf, and `)`.
 fn push_mark(text: &mut String, mark: &str, leaf: LeafId) -> Result<(), AllocError>
     ensures { OnOk result (string_bytes text.new
         ≡ string_bytes text.old ++ mark.now ++ decimal leaf.0 ++ codes ")") }
@@ -105,8 +104,8 @@ fn push_mark(text: &mut String, mark: &str, leaf: LeafId) -> Result<(), AllocErr
     write!(text, "{mark}{leaf})")
 }
 
-/// Appends the label of the node of the state `s`: its number, and its early mark or, if it has
-/// none, its late mark.
+/// Appends the label of the node of the state `s`: the number of the state, and its early mark. If
+/// there is no early mark, appends the late mark of the state, if any.
 fn push_state_label(text: &mut String, s: usize, state_type: StateType) -> Result<(), AllocError>
     ensures { OnOk result (string_bytes text.new
         ≡ string_bytes text.old ++ state_label s (state_type_of state_type)) }
@@ -154,8 +153,9 @@ fn push_link(text: &mut String, from: &str, to: &str) -> Result<(), AllocError>
     write!(text, "{from}-->{to}\n")
 }
 
-/// Appends the lines of an edge: its own node, with this label, and the links from the node `from`
-/// to this node and from this node to that of `target`.
+/// Appends the lines of an edge from the node `from` to the state `target`. The edge has a node of
+/// its own with the label `label`. Links lead from `from` to this node, and from this node to the
+/// node of `target`.
 fn push_edge(
     alloc: Global,
     text: &mut String,
@@ -174,7 +174,7 @@ fn push_edge(
     push_link(text, &name, &to)
 }
 
-/// Appends the lines of an edge on bytes, whose source is the node `from`.
+/// Appends the lines of `edge`, an edge on bytes from the node `from`.
 fn push_byte_edge(
     alloc: Global,
     text: &mut String,
@@ -189,7 +189,7 @@ fn push_byte_edge(
     push_edge(alloc, text, from, edge.1, &label)
 }
 
-/// Appends the lines of edges on bytes, whose source is the node `from`.
+/// Appends the lines of `edges`, the edges on bytes from the node `from`.
 fn push_byte_edges(
     alloc: Global,
     text: &mut String,
@@ -205,8 +205,8 @@ fn push_byte_edges(
     Ok(())
 }
 
-/// Appends the lines of the edge on the end of the input from the node `from`, or nothing if `end`
-/// is `None`.
+/// Appends the lines of the edge on the end of the input from the node `from` to the state `end`.
+/// Appends nothing if `end` is `None`.
 fn push_end_edge(
     alloc: Global,
     text: &mut String,
@@ -254,7 +254,7 @@ fn push_state(
     push_end_edge(alloc, text, &name, state.eoi)
 }
 
-/// Returns the state diagram of a graph with these states.
+/// Returns the state diagram of a graph with the states `states`.
 pub(super) fn diagram(alloc: Global, states: &[StateData]) -> Result<String, AllocError>
     ensures { IfOk result (λ text. string_bytes text ≡ mermaid_of (map graph_state_of states.now)) }
 {

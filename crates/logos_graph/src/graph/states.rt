@@ -1,4 +1,5 @@
-//! Makes the states of a graph from its table. `value` calls it once for each graph without faults.
+//! Makes the states of a graph from its table. Called by `value` once for each graph without
+//! faults.
 
 ghost use Rattle.std.specs.Prelude.{◌≡◌, ◌≢◌, ℕ, ◌<◌, ◌≤◌, ◌++◌, ◌∷◌, [], IsTrue, IsFalse, IfOk, OnOk, length, map, option_map, slice_index};
 ghost use Rattle.logos_graph.specs.Views.{All, bounds, AreNeat, IsFit, IsFinished, IsRising, IsFirstFrom, Shows, size, to, mark, type_of, target_by, HaveBackward, edge_of, graph_state_of, leaf_number, state_number, state_type_of, targets, with_range, with_run, AreEdgesOf, IsStateOf};
@@ -16,7 +17,7 @@ use std::ops::RangeInclusive;
 type Edge = (ByteClass, State);
 
 /// Returns the index of the first edge whose target is `target` or greater, or the number of edges
-/// if there is none. The targets must ascend.
+/// if there is no such edge. The targets must be in ascending order.
 fn slot_of(edges: &[Edge], target: usize) -> usize
     requires { IsRising (targets (map edge_of edges.now)) }
     ensures { IsFirstFrom (targets (map edge_of edges.now)) target result }
@@ -34,7 +35,7 @@ fn slot_of(edges: &[Edge], target: usize) -> usize
     low
 }
 
-/// Returns whether there is an edge at the index `slot` and it leads to `target`.
+/// Returns whether an edge exists at the index `slot` and leads to `target`.
 fn is_at(edges: &[Edge], slot: usize, target: usize) -> bool
     ensures hit { IsTrue result → (slot < length edges.now)
         × (slice_index (targets (map edge_of edges.now)) slot ≡ target) }
@@ -65,8 +66,8 @@ fn new_edge(alloc: Global, range: RangeInclusive<u8>, target: usize) -> Result<E
     Ok((ByteClass { ranges }, State(target)))
 }
 
-/// Appends a range of bytes to the edge to `target`, or inserts such an edge in order if there is
-/// none.
+/// Appends a range of bytes to the edge to `target`. If there is no edge to `target`, inserts one
+/// in the order of the targets.
 fn add_range(
     alloc: Global,
     edges: &mut Vec<Edge>,
@@ -86,8 +87,8 @@ fn add_range(
     Ok(())
 }
 
-/// Returns the end of the run of equal entries of a row that begins at the byte `from`: the first
-/// byte after the run, or 256.
+/// Returns the end of the run of equal entries that begins at the byte `from` of a row. The end is
+/// the first byte after the run, or 256.
 fn run_end(row: &Row, from: usize) -> usize
     requires { from < 256 }
     ensures after { from < result }
@@ -104,7 +105,7 @@ fn run_end(row: &Row, from: usize) -> usize
     256
 }
 
-/// Adds a range of bytes to the edge to `target`, or nothing if `target` is `None`.
+/// Adds a range of bytes to the edge to `target`. Does nothing if `target` is `None`.
 fn add_run(
     alloc: Global,
     edges: &mut Vec<Edge>,
@@ -121,7 +122,7 @@ fn add_run(
     add_range(alloc, edges, range, target)
 }
 
-/// Returns the edges on bytes of the state with this row, ascending by target.
+/// Returns the edges on bytes of the state with the row `row`, in ascending order of their targets.
 fn edges_of(alloc: Global, row: &Row) -> Result<Vec<Edge>, AllocError>
     ensures { IfOk result (λ edges. AreEdgesOf (target_by row.now) 256 (map edge_of edges.items)) }
 {
@@ -136,14 +137,14 @@ fn edges_of(alloc: Global, row: &Row) -> Result<Vec<Edge>, AllocError>
     Ok(edges)
 }
 
-/// Returns the leaf with this number, or `None` if there is no number.
+/// Returns the leaf with the number `number`, or `None` if `number` is `None`.
 fn leaf(number: Option<usize>) -> Option<LeafId>
     ensures { option_map leaf_number result ≡ number }
 {
     Some(LeafId(number?))
 }
 
-/// Returns the type of a state with this mark.
+/// Returns the type of a state with the mark `mark`.
 fn type_of_mark(mark: StateMarks) -> StateType
     ensures { state_type_of result ≡ type_of mark }
 {
@@ -153,14 +154,14 @@ fn type_of_mark(mark: StateMarks) -> StateType
     }
 }
 
-/// Returns the state with this number, or `None` if there is no number.
+/// Returns the state with the number `number`, or `None` if `number` is `None`.
 fn state(number: Option<usize>) -> Option<State>
     ensures { option_map state_number result ≡ number }
 {
     Some(State(number?))
 }
 
-/// Returns the states with these numbers, in order.
+/// Returns the states with the numbers `numbers`, in the order of `numbers`.
 fn numbered(alloc: Global, numbers: &[usize]) -> Result<Vec<State>, AllocError>
     ensures { IfOk result (λ states. map state_number states.items ≡ numbers.now) }
 {
@@ -171,7 +172,7 @@ fn numbered(alloc: Global, numbers: &[usize]) -> Result<Vec<State>, AllocError>
     Ok(states)
 }
 
-/// Returns state `s` of the table, to which the states `before` lead.
+/// Returns the state `s` of the table. `before` has the numbers of the states that lead to `s`.
 fn state_of(
     alloc: Global,
     table: &Table,

@@ -1,5 +1,5 @@
 //! The graph of a lexer, and its methods. Made by `construction`, and read by the generator of
-//! codes and users of the library.
+//! codes and by users of the library.
 
 ghost use Rattle.std.specs.Prelude.{◌≡◌, ◌≢◌, ℕ, ◌-◌, ◌<◌, ◌↔◌, [], IsTrue, IfOk, Some, length, map, slice_get, string_bytes};
 ghost use Rattle.logos_graph.specs.Views.{range_with_len, dfa_of, fault_of, IsFit, IsFinished, mermaid_of, Shows, YieldsEvidence, YieldsFirstBy, item_count, AreBackward, graph_state_of, state_number, states_left};
@@ -56,7 +56,7 @@ impl<'s> Model for Graph<'s> {
 }
 
 impl<'s> Graph<'s> {
-    /// Returns a graph without states, for leaves with the faults `errors`.
+    /// Returns the graph of `leaves`, which have the faults `errors`. The graph has no states.
     pub(crate) fn refused(
         alloc: Global,
         leaves: Vec<Leaf<'s>>,
@@ -83,7 +83,8 @@ impl<'s> Graph<'s> {
         }
     }
 
-    /// Returns the graph that the table of `reduced` represents, for leaves without faults.
+    /// Returns the graph of `leaves`, which have no faults. The table of `reduced` represents the
+    /// graph.
     pub(crate) fn finished(
         alloc: Global,
         leaves: Vec<Leaf<'s>>,
@@ -119,8 +120,8 @@ impl<'s> Graph<'s> {
 }
 
 impl Graph<'_> {
-    /// Returns the state in which each match attempt begins. The graph must have states; it has
-    /// states if `errors` is empty.
+    /// Returns the state in which each match attempt begins. The graph must have states. A graph
+    /// without faults has states.
     pub fn root(&self) -> State
         requires { 0 < length self.now.states }
         ensures root { result.0 ≡ 0 }
@@ -182,7 +183,7 @@ impl Graph<'_> {
         &self.dfa
     }
 
-    /// Returns the faults of the leaves. If there are any, the graph has no states.
+    /// Returns the faults of the leaves. A graph with faults has no states.
     pub fn errors(&self) -> &[GraphError]
         ensures { map fault_of result.now ≡ self.now.faults }
     {
@@ -209,7 +210,7 @@ impl Graph<'_> {
     }
 }
 
-/// Prints the states with their numbers and marks, and with a line for each edge.
+/// Prints the states with their numbers and marks, and a line for each edge.
 impl fmt::Display for Graph<'_> {
     fn fmt<W: fmt::Write>(&self, f: &mut fmt::Formatter<W>) -> fmt::Result {
         let listing = Listing {

@@ -1,4 +1,4 @@
-//! Builders that flatten alternations and turn them into classes. The simplifier calls them.
+//! Flattens alternations and turns them into classes. Called by the simplifier.
 
 ghost use Rattle.std.specs.Prelude.{◌≡◌, ◌≤◌, ◌++◌, ◌∷◌, [], map, length, take, drop, Option, option_map, is_some, ◌&&◌, true, false, IfOk, OnOk};
 ghost use Rattle.logos_hir.specs.Views.{chars, pairs, tree_of, class_tree, sole_char, char_ranges_of, byte_ranges_of, all_ranges, branches_of, bytes_or, chars_or, choice_of, alternation_of, IsSimplest, IsAdded, IsFlatAlone, fits_of};
@@ -8,8 +8,7 @@ use crate::hir::{Class, Hir, Range};
 use crate::sets::RangeSet;
 use std::alloc::{AllocError, Global};
 
-/// Returns the only character of the text `bytes`, or `None` if `bytes` are not the UTF-8 of one
-/// character.
+/// Returns the character whose UTF-8 is `bytes`, or `None` if there is no such character.
 fn sole_char(alloc: Global, bytes: &[u8]) -> Result<Option<char>, AllocError>
     ensures { IfOk result (λ c. c ≡ sole_char bytes.now) }
 {
@@ -30,8 +29,8 @@ fn characters(alloc: Global, text: &str) -> Result<Vec<char>, AllocError>
     text.chars().collect(alloc)
 }
 
-/// Appends to `out` the ranges of a class of characters, or of a literal of one character. Returns
-/// whether `branch` is one of these, and appends nothing otherwise.
+/// Appends the ranges of `branch` to `out` and returns `true` if `branch` is a class of characters
+/// or a literal of one character. Otherwise, appends nothing and returns `false`.
 fn push_char_ranges(out: &mut Vec<Range>, branch: &Hir) -> Result<bool, AllocError>
     ensures { IfOk result (λ done. IsAdded (char_ranges_of (tree_of branch.now)) done
         (pairs out.old.items) (pairs out.new.items)) }
@@ -52,8 +51,8 @@ fn push_char_ranges(out: &mut Vec<Range>, branch: &Hir) -> Result<bool, AllocErr
     }
 }
 
-/// Appends to `out` the ranges of a class of bytes, or of a literal of one byte. Returns whether
-/// `branch` is one of these, and appends nothing otherwise.
+/// Appends the ranges of `branch` to `out` and returns `true` if `branch` is a class of bytes or a
+/// literal of one byte. Otherwise, appends nothing and returns `false`.
 fn push_byte_ranges(out: &mut Vec<Range>, branch: &Hir) -> Result<bool, AllocError>
     ensures { IfOk result (λ done. IsAdded (byte_ranges_of (tree_of branch.now)) done
         (pairs out.old.items) (pairs out.new.items)) }
@@ -74,7 +73,7 @@ fn push_byte_ranges(out: &mut Vec<Range>, branch: &Hir) -> Result<bool, AllocErr
     }
 }
 
-/// Returns the ranges of all branches, or `None` if one is neither a class of characters nor a
+/// Returns the ranges of all branches, or `None` if a branch is neither a class of characters nor a
 /// literal of one character.
 fn char_ranges(alloc: Global, branches: &[Hir]) -> Result<Option<Vec<Range>>, AllocError>
     ensures { IfOk result (λ o. option_map (λ v. pairs v.items) o ≡
@@ -89,8 +88,8 @@ fn char_ranges(alloc: Global, branches: &[Hir]) -> Result<Option<Vec<Range>>, Al
     Ok(Some(out))
 }
 
-/// Returns the ranges of all branches, or `None` if one is neither a class of bytes nor a literal
-/// of one byte.
+/// Returns the ranges of all branches, or `None` if a branch is neither a class of bytes nor a
+/// literal of one byte.
 fn byte_ranges(alloc: Global, branches: &[Hir]) -> Result<Option<Vec<Range>>, AllocError>
     ensures { IfOk result (λ o. option_map (λ v. pairs v.items) o ≡
         all_ranges byte_ranges_of (map tree_of branches.now)) }
@@ -117,8 +116,8 @@ fn push_branches(branches: &mut Vec<Hir>, mut inner: Vec<Hir>) -> Result<(), All
     Ok(branches.append(&mut inner)?)
 }
 
-/// Appends to `branches` the branches that the tree `branch` adds to an alternation: those of an
-/// alternation, or the tree itself.
+/// Appends the branches of the tree `branch` to `branches`: the branches of an alternation, and
+/// otherwise the tree itself.
 fn push_branch(branches: &mut Vec<Hir>, branch: Hir) -> Result<(), AllocError>
     ensures { OnOk result (map tree_of branches.new.items ≡
         map tree_of branches.old.items ++ branches_of (tree_of branch)) }
@@ -129,7 +128,8 @@ fn push_branch(branches: &mut Vec<Hir>, branch: Hir) -> Result<(), AllocError>
     }
 }
 
-/// Returns a class of bytes if each branch fits one, and an alternation of the branches otherwise.
+/// Returns a class of bytes if each branch is a class of bytes or a literal of one byte, and an
+/// alternation of the branches otherwise.
 fn bytes_or(alloc: Global, branches: Vec<Hir>) -> Result<Hir, AllocError>
     ensures { IfOk result (λ hir. tree_of hir ≡
         bytes_or (map tree_of branches.items)
@@ -141,8 +141,8 @@ fn bytes_or(alloc: Global, branches: Vec<Hir>) -> Result<Hir, AllocError>
     }
 }
 
-/// Returns a class of characters if each branch fits one, and a class of bytes or an alternation of
-/// the branches otherwise.
+/// Returns a class of characters if each branch is a class of characters or a literal of one
+/// character, and the result of `bytes_or` otherwise.
 fn chars_or(alloc: Global, branches: Vec<Hir>) -> Result<Hir, AllocError>
     ensures { IfOk result (λ hir. tree_of hir ≡
         chars_or (map tree_of branches.items)
@@ -154,9 +154,9 @@ fn chars_or(alloc: Global, branches: Vec<Hir>) -> Result<Hir, AllocError>
     }
 }
 
-/// Returns an alternation of branches that are not alternations themselves. A single branch is
-/// returned unchanged, branches that fit a class become that class, and no branches make the class
-/// without characters.
+/// Returns an alternation of branches that are not alternations themselves. Returns a single branch
+/// unchanged, a class if all branches fit one class, and the class without characters if `branches`
+/// is empty.
 pub(crate) fn choice(mut branches: Vec<Hir>) -> Result<Hir, AllocError>
     ensures { IfOk result (λ hir. tree_of hir ≡ choice_of (map tree_of branches.items)) }
 {
@@ -170,9 +170,9 @@ pub(crate) fn choice(mut branches: Vec<Hir>) -> Result<Hir, AllocError>
     }
 }
 
-/// Returns an alternation in its simplest form. Branches of inner alternations become branches of
-/// the alternation, a single branch is returned unchanged, branches that are all characters become
-/// a class of characters, and branches that are all bytes become a class of bytes.
+/// Returns the simplest form of an alternation. The branches of inner alternations become branches
+/// of the alternation. A single branch is returned unchanged. Branches that are all characters
+/// become a class of characters, and branches that are all bytes become a class of bytes.
 ///
 /// # Errors
 ///
@@ -187,7 +187,7 @@ pub fn alternation(all: Vec<Hir>) -> Result<Hir, AllocError>
     choice(branches)
 }
 
-/// The classes that branches fit: those that they can become together.
+/// The classes that a list of branches fits: the kinds of class that can replace the branches.
 #[derive(Clone, Copy)]
 pub(crate) struct Fits {
     /// Whether each branch is a class of characters, or a literal of one character.
@@ -207,7 +207,7 @@ impl Fits {
         }
     }
 
-    /// Returns the classes that these branches and the branches of `other` fit together.
+    /// Returns the classes that the branches of `self` and of `other` fit together.
     pub(crate) fn both(self, other: Fits) -> Fits
         ensures { result ≡ record { chars = self.chars && other.chars; bytes = self.bytes && other.bytes } }
     {
@@ -235,7 +235,7 @@ fn is_one_char(bytes: &[u8]) -> bool
     }
 }
 
-/// Returns the classes that a branch fits if it is the class `class`.
+/// Returns the classes that the class `class` fits as a branch.
 fn fits_of_class(class: &Class) -> Fits
     ensures { result ≡ fits_of (class_tree class.now ∷ []) }
 {
@@ -251,8 +251,8 @@ fn fits_of_class(class: &Class) -> Fits
     }
 }
 
-/// Returns the classes that the branches that the simplified tree `branch` adds to an alternation
-/// fit. The branches of a simplified alternation fit no class, since otherwise it would be that
+/// Returns the classes that the branches of the simplified tree `branch` fit. The branches of a
+/// simplified alternation fit no class, because branches that fit a class are simplified to the
 /// class.
 fn fits_of(branch: &Hir) -> Fits
     requires { IsSimplest (tree_of branch.now) }
@@ -271,8 +271,8 @@ fn fits_of(branch: &Hir) -> Fits
     }
 }
 
-/// Appends to `branches` the branches that the simplified tree `branch` adds to an alternation.
-/// Returns the classes that these branches fit.
+/// Appends the branches of the simplified tree `branch` to `branches`. Returns the classes that the
+/// appended branches fit.
 pub(crate) fn push_fitting(branches: &mut Vec<Hir>, branch: Hir) -> Result<Fits, AllocError>
     requires { IsSimplest (tree_of branch) }
     ensures items { OnOk result (map tree_of branches.new.items ≡
@@ -284,8 +284,9 @@ pub(crate) fn push_fitting(branches: &mut Vec<Hir>, branch: Hir) -> Result<Fits,
     Ok(fits)
 }
 
-/// Replaces the branches from the index `from` on with one class, if they are not exactly one and
-/// `fits` contains a class. Returns the classes that the branches from `from` on fit afterwards.
+/// Replaces the branches from the index `from` on with one class if there is not exactly one such
+/// branch and `fits` contains a class. `fits` are the classes that these branches fit. Returns the
+/// classes that the branches from `from` on fit afterwards.
 pub(crate) fn join_class(
     alloc: Global,
     branches: &mut Vec<Hir>,

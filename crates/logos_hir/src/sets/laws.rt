@@ -5,13 +5,13 @@ ghost use Rattle.logos_hir.specs.Views.{AreCanonical, in_range, intersection, me
 
 use super::{LAST_BYTE, RangeSet};
 
-/// Sets with the same members have the same ranges.
+/// Sets with equal members have equal ranges.
 pub fn same_members(a: &RangeSet, b: &RangeSet)
     ensures { set_of a.now ≡ set_of b.now → pairs a.now.ranges.items ≡ pairs b.now.ranges.items }
 {}
 
-/// The ranges of a set in a tree are canonical, and their members are the characters, or the bytes,
-/// of the set.
+/// The ranges that represent a set in a tree are canonical, and their members are the characters or
+/// the bytes in the set.
 pub fn ranges_of_a_set()
     ensures chars_canonical { (set : ℕ → Bool) → AreCanonical (char_ranges set) }
     ensures chars_members { (set : ℕ → Bool) → members (char_ranges set) ≡ only_chars set }

@@ -1,5 +1,5 @@
-//! Operands of a bracket, each with the operator before it. The reader of brackets adds each
-//! operand to an `OperandRuns`.
+//! Combines the operands of a bracket, each with the operator before it. The reader of brackets
+//! adds each operand to an `OperandRuns`.
 
 ghost use Rattle.std.specs.Prelude.{◌≡◌, false, IfOk, OnOk};
 ghost use Rattle.logos_hir.specs.Views.{Set, set_of, combination, selection, effects_on, with_operand, Makes, made_by};
@@ -12,13 +12,13 @@ use std::alloc::{AllocError, Global};
 pub enum SetOperator {
     /// `&&`: the members of both operands.
     Intersection,
-    /// `--`: the members of the left operand that are not in the right one.
+    /// `--`: the members of the left operand that are not in the right operand.
     Difference,
     /// `~~`: the members of exactly one of the operands.
     SymmetricDifference,
 }
 
-/// Returns the set that the operator `op` makes of `a` on its left and `b` on its right.
+/// Returns the result of the operator `op` with the left operand `a` and the right operand `b`.
 ///
 /// # Errors
 ///
@@ -33,7 +33,7 @@ pub fn combination(op: SetOperator, a: &RangeSet, b: &RangeSet) -> Result<RangeS
     }
 }
 
-/// The effect of operands on a set: the result contains the members of the set that are in
+/// The effect of operands on a set. The result contains the members of the set that are in
 /// `inside`, and the characters outside the set that are in `outside`.
 #[derive(Drop)]
 pub struct Effect {
@@ -41,7 +41,7 @@ pub struct Effect {
     inside: RangeSet,
 }
 
-/// Returns the set without members.
+/// Returns the empty set.
 fn nothing(alloc: Global) -> Result<RangeSet, AllocError>
     ensures { IfOk result (λ set. set_of set ≡ (λ c. false)) }
 {
@@ -55,7 +55,8 @@ fn copy(alloc: Global, set: &RangeSet) -> Result<RangeSet, AllocError>
     RangeSet::from_ranges(alloc, set.ranges())
 }
 
-/// Returns the members of `inside` that are in `test`, and the members of `outside` that are not.
+/// Returns the members of `inside` that are in `test`, and the members of `outside` that are not in
+/// `test`.
 fn selection(test: &RangeSet, inside: &RangeSet, outside: &RangeSet) -> Result<RangeSet, AllocError>
     ensures { IfOk result (λ set. set_of set ≡ selection (set_of test.now) (set_of inside.now)
         (set_of outside.now)) }
@@ -85,8 +86,8 @@ impl Effect {
         }
     }
 
-    /// Returns the effect of the operand `set`. Without an operator the result is `set` for each
-    /// set.
+    /// Returns the effect of the operand `set` after the operator `operator`. If `operator` is
+    /// `None`, the effect replaces each set with `set`.
     fn of(
         alloc: Global,
         operator: Option<SetOperator>,
@@ -104,7 +105,7 @@ impl Effect {
         }
     }
 
-    /// Returns the effect of these operands followed by those of `other`.
+    /// Returns the effect of the operands of `self` followed by the operands of `other`.
     fn then(&self, other: &Effect) -> Result<Effect, AllocError>
         ensures outside { IfOk result (λ effect. set_of effect.outside ≡
             selection (set_of self.now.outside) (set_of other.now.inside)
@@ -120,8 +121,9 @@ impl Effect {
     }
 }
 
-/// Appends an effect after the effects of `count` operands. As a binary counter carries, the last
-/// effect is first combined with `effect` for each binary digit 1 at the end of `count`.
+/// Appends the effect of an operand to the effects of `count` operands. For each binary digit 1 at
+/// the end of `count`, first combines the last effect with the new effect, as a binary counter
+/// carries.
 fn push_effect(effects: &mut Vec<Effect>, count: usize, effect: Effect) -> Result<(), AllocError>
     ensures { (before : Set) → OnOk result (effects_on effects.new.items before ≡
         selection (effects_on effects.old.items before) (set_of effect.inside)
@@ -136,7 +138,7 @@ fn push_effect(effects: &mut Vec<Effect>, count: usize, effect: Effect) -> Resul
     }
 }
 
-/// The operands of a bracket so far. They are combined as they arrive, so that each range is
+/// The operands of a bracket so far. Operands are combined on arrival, so that each range is
 /// processed a logarithmic number of times, and only a logarithmic number of effects is stored.
 #[derive(Drop)]
 pub struct OperandRuns {
@@ -147,7 +149,7 @@ pub struct OperandRuns {
 }
 
 impl OperandRuns {
-    /// Returns operands of which there are none yet.
+    /// Returns an `OperandRuns` without operands.
     pub fn new(alloc: Global) -> OperandRuns
         ensures { made_by result ≡ (λ c. false) }
     {
@@ -177,7 +179,7 @@ impl OperandRuns {
         Ok(())
     }
 
-    /// Returns the set that the operands make, combined from the left.
+    /// Returns the set that results from the operands, combined from the left.
     ///
     /// # Errors
     ///

@@ -12,18 +12,18 @@ use logos_token::error::{
 use logos_token::token::Span;
 use std::alloc::{AllocError, Global};
 
-/// The flags with which a text is read as a pattern.
+/// The mode in which a text is read as a pattern.
 #[derive(Clone, Copy)]
 pub struct ReadingMode {
-    /// Whether the pattern belongs to a `token`, not to a `regex`, a `skip` or a subpattern.
+    /// Whether the pattern belongs to a `token`, as opposed to a `regex`, a `skip` or a subpattern.
     pub is_literal: bool,
-    /// Whether the pattern matches characters, not bytes.
+    /// Whether the pattern matches characters rather than bytes.
     pub unicode: bool,
     /// Whether letters match in either case.
     pub ignore_case: bool,
 }
 
-/// Returns the name of `kind` in the message of a fault.
+/// Returns the name of `kind` as it appears in the message of a fault.
 fn kind_name(kind: Kind) -> &'static str
     ensures { result.now ≡ kind_name kind }
 {
@@ -49,7 +49,7 @@ fn kind_name(kind: Kind) -> &'static str
     }
 }
 
-/// Returns the kind that the detail of a fault has for `kind`.
+/// Returns the kind that represents `kind` in the detail of a fault.
 fn detail_kind(kind: Kind) -> PatternKind
     ensures { result ≡ detail_kind kind }
 {
@@ -75,7 +75,7 @@ fn detail_kind(kind: Kind) -> PatternKind
     }
 }
 
-/// Returns the byte at the offset `at` of a text, or 0 if `at` is not before its end.
+/// Returns the byte at the offset `at` of a text, or 0 if the text is too short.
 fn byte_in(text: &[u8], at: usize) -> u8
     ensures { result ≡ byte_in text.now at }
 {
@@ -85,7 +85,7 @@ fn byte_in(text: &[u8], at: usize) -> u8
     }
 }
 
-/// Returns the first four bytes of a text, with 0 for each byte that it does not have.
+/// Returns the first four bytes of a text, padded with 0 if the text is shorter.
 fn front_in(text: &[u8]) -> PatternFront
     ensures { result ≡ front_in text.now }
 {
@@ -97,7 +97,8 @@ fn front_in(text: &[u8]) -> PatternFront
     }
 }
 
-/// Returns the bytes of a text from the offset `at` on, or none if `at` is past its end.
+/// Returns the bytes of a text from the offset `at` on, or no bytes if `at` is past the end of the
+/// text.
 fn rest_from(text: &[u8], at: usize) -> &[u8]
     ensures { result.now ≡ drop at text.now }
 {
@@ -107,7 +108,7 @@ fn rest_from(text: &[u8], at: usize) -> &[u8]
     }
 }
 
-/// Returns the message of a fault of `kind` at the byte offset `at` of a pattern's text.
+/// Returns the message for a fault of the kind `kind` at the byte offset `at` of a pattern's text.
 fn regex_text(alloc: Global, kind: Kind, at: usize) -> Result<String, AllocError>
     ensures { IfOk result (λ text. string_bytes text ≡ regex_text at kind) }
 {
@@ -116,8 +117,8 @@ fn regex_text(alloc: Global, kind: Kind, at: usize) -> Result<String, AllocError
     Ok(text)
 }
 
-/// Reports a fault of a pattern of `kind`, with its detail. `span` is the span of the pattern's
-/// literal.
+/// Reports a fault of the kind `kind` in a pattern, with the detail `detail`. `span` is the span of
+/// the pattern's literal.
 fn report_regex(
     kind: Kind,
     detail: PatternDetail,
@@ -136,8 +137,8 @@ fn report_regex(
     )
 }
 
-/// Returns the detail of a fault of `kind` at the byte offset `at` of `regex`, a pattern's text
-/// that was made as `written` shows.
+/// Returns the detail of a fault of the kind `kind` at the byte offset `at` of the pattern text
+/// `regex`. `written` describes the making of this text.
 fn detail_of(
     alloc: Global,
     kind: Kind,
@@ -156,8 +157,8 @@ fn detail_of(
     })
 }
 
-/// Reports the reason that `regex`, the text of a pattern, was not read. Returns `Memory` without a
-/// report if the reason is that memory ran out.
+/// Reports the reason why the pattern text `regex` could not be read. If the reason is that memory
+/// ran out, returns `Memory` without a report.
 fn report_error(
     error: PatternError,
     regex: &str,
@@ -184,8 +185,9 @@ fn report_error(
     }
 }
 
-/// Reads `regex`, the text that was made from the literal of `written`, as a pattern. If the text
-/// is not a pattern within the limit, reports that at the literal and returns `None`.
+/// Reads `regex`, the text that was made from the literal in `written`, as a pattern. If the text
+/// is not a pattern or exceeds the limit on nesting, reports the fault at the literal and returns
+/// `None`.
 ///
 /// # Errors
 ///

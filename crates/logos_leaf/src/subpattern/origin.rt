@@ -1,5 +1,5 @@
-//! Finds the origin of a byte of a pattern's text: the pattern's own literal, or a subpattern that
-//! was substituted. `fault` calls `origin_of` for the byte of each fault.
+//! Finds the origin of a byte of a pattern's text: the pattern's own literal, or a substituted
+//! subpattern. `fault` calls `origin_of` for the byte of each fault.
 
 use crate::subpattern::substitution::{TextPart, characters, encoded, part_at};
 use crate::subpattern::{Subpatterns, flags_of, pattern_text, wrapped};
@@ -8,7 +8,7 @@ use logos_token::error::{ByteOrigin, Memory};
 use logos_token::token::Span;
 use std::alloc::Global;
 
-/// The literal of a pattern, and the way in which the text of the pattern was made from it.
+/// The literal of a pattern, and the way in which the pattern's text was made from the literal.
 #[derive(Clone, Copy)]
 pub struct WrittenPattern<'l, 'p, 's> {
     pub literal: &'l Literal<'s>,
@@ -23,43 +23,43 @@ pub enum Making<'p, 's> {
     Escaped,
     /// These subpatterns are substituted in the text that the literal spells.
     PutIn(&'p Subpatterns<'s>),
-    /// These subpatterns are substituted in the text that the literal spells, which is in a group
-    /// that sets its flags.
+    /// The text that the literal spells is put in a group that sets the pattern's flags, and these
+    /// subpatterns are substituted in it.
     Grouped(&'p Subpatterns<'s>),
 }
 
-/// The lengths of a part of a pattern's own text before and after the substitution.
+/// The lengths of a part of a pattern's own text before and after the substitution of subpatterns.
 #[derive(Clone, Copy)]
 struct Extent {
-    /// The number of bytes of the part in the text with all subpatterns substituted.
+    /// The number of bytes of the part after the substitution.
     whole: usize,
-    /// The number of bytes of the part in the pattern's own text.
+    /// The number of bytes of the part before the substitution.
     own: usize,
-    /// The span of the name of the subpattern that is substituted, at its definition, or `None` if
-    /// the part is a character or its subpattern is missing.
+    /// The span of the name in the definition of the substituted subpattern. It is `None` if the
+    /// part is a character or the subpattern is missing.
     put_in: Option<Span>,
 }
 
-/// A search for a byte of a pattern's text, past some parts of the pattern's own text.
+/// A search for a byte of a pattern's text that has passed some parts of the pattern's own text.
 #[derive(Clone, Copy)]
 struct OriginSearch {
-    /// The number of bytes from the end of these parts to the byte, in the text with all
-    /// subpatterns substituted.
+    /// The number of bytes between the end of the passed parts and the byte, after the substitution
+    /// of subpatterns.
     left: usize,
-    /// The number of bytes of these parts in the pattern's own text.
+    /// The number of bytes of the passed parts, before the substitution of subpatterns.
     own: usize,
-    /// The span of the name of the first subpattern that is substituted in these parts, at its
-    /// definition, or `None` if they have no subpattern.
+    /// The span of the name in the definition of the first substituted subpattern among the passed
+    /// parts. It is `None` if no subpattern is substituted in these parts.
     put_in: Option<Span>,
 }
 
 impl OriginSearch {
-    /// Returns whether the byte belongs to the next part, which has `extent`.
+    /// Returns whether the byte belongs to the next part. `extent` is the extent of that part.
     fn ends_in(self, extent: Extent) -> bool {
         self.left < extent.whole
     }
 
-    /// Returns the search past the next part, which has `extent`.
+    /// Returns the search after it has passed the next part. `extent` is the extent of that part.
     fn moved_past(self, extent: Extent) -> OriginSearch {
         OriginSearch {
             left: self.left.saturating_sub(extent.whole),
@@ -68,7 +68,8 @@ impl OriginSearch {
         }
     }
 
-    /// Returns the origin of the byte, which belongs to the next part, the one with `extent`.
+    /// Returns the origin of the byte, which must belong to the next part. `extent` is the extent
+    /// of that part.
     fn origin_in(self, extent: Extent) -> ByteOrigin {
         let own = match extent.put_in {
             Some(_) => None,
@@ -100,8 +101,8 @@ fn extent_of(
     }
 }
 
-/// Returns the extent of `(?&name)`, the use of a subpattern. If the subpattern is missing, its
-/// text counts as empty.
+/// Returns the extent of a use `(?&name)` of a subpattern. The text of a missing subpattern counts
+/// as empty.
 fn used_extent(
     alloc: Global,
     subpatterns: &Subpatterns<'_>,
@@ -124,8 +125,8 @@ fn used_extent(
 }
 
 /// Returns the origin of the byte at the offset `at` of a text with all subpatterns substituted.
-/// `characters` are the characters of the text before the substitution. If `at` is past the end,
-/// the offset in the own text is that of its end.
+/// `characters` are the characters of the text before the substitution. If `at` is past the end of
+/// the text, the `own` offset of the origin is the length of the text before the substitution.
 fn origin_in(
     alloc: Global,
     subpatterns: &Subpatterns<'_>,
@@ -152,8 +153,8 @@ fn origin_in(
     })
 }
 
-/// Returns the origin of the byte at the offset `at` of the text that `literal` spells with all
-/// subpatterns substituted.
+/// Returns the origin of the byte at the offset `at` of the text that `literal` spells. All
+/// subpatterns are substituted in this text.
 fn put_in_origin(
     alloc: Global,
     literal: &Literal<'_>,
@@ -165,8 +166,8 @@ fn put_in_origin(
     origin_in(alloc, subpatterns, &characters, at)
 }
 
-/// Returns the origin of the byte at the offset `at` of the text that `literal` spells with all
-/// subpatterns substituted, in a group that sets its flags.
+/// Returns the origin of the byte at the offset `at` of the text that `literal` spells. The text is
+/// in a group that sets the pattern's flags, and all subpatterns are substituted in it.
 fn grouped_origin(
     alloc: Global,
     literal: &Literal<'_>,
@@ -179,8 +180,8 @@ fn grouped_origin(
     Ok(without_group(literal, origin))
 }
 
-/// Returns `origin`, an origin in the text of a group, as an origin in the text inside the group.
-/// Its offset in the own text is `None` for a byte of the group's opening.
+/// Converts `origin` from an origin in the text of a group to an origin in the text inside the
+/// group. The `own` offset is `None` for a byte of the text that opens the group.
 fn without_group(literal: &Literal<'_>, origin: ByteOrigin) -> ByteOrigin {
     let length = flags_of(literal).len();
     let own = match origin.own {
@@ -190,8 +191,8 @@ fn without_group(literal: &Literal<'_>, origin: ByteOrigin) -> ByteOrigin {
     ByteOrigin { own, ..origin }
 }
 
-/// Returns the origin of the byte at the offset `at` of the text of a pattern. It is not known for
-/// an escaped text.
+/// Returns the origin of the byte at the offset `at` of a pattern's text. The origin of a byte of
+/// an escaped text is unknown.
 pub(crate) fn origin_of(
     alloc: Global,
     written: WrittenPattern<'_, '_, '_>,

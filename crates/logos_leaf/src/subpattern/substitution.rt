@@ -13,36 +13,36 @@ use std::alloc::{AllocError, Global};
 /// A part of a pattern's text.
 #[derive(Clone, Copy)]
 pub(crate) enum TextPart<'a> {
-    /// A character that is not part of `(?&name)`.
+    /// A character that does not belong to a use `(?&name)` of a subpattern.
     Itself(char),
-    /// The name in `(?&name)`, the use of a subpattern.
+    /// The name in a use `(?&name)` of a subpattern.
     Used(&'a [char]),
 }
 
-/// The subpatterns of a lexer, and the span at which missing ones are reported.
+/// The subpatterns of a lexer, and the span at which missing subpatterns are reported.
 #[derive(Clone, Copy)]
 struct Lookup<'p, 's> {
     subpatterns: &'p Subpatterns<'s>,
     span: Span,
 }
 
-/// The beginning of a text, with its subpatterns substituted.
+/// A prefix of a text, with its subpatterns substituted.
 #[derive(Drop)]
 struct Text {
     text: String,
-    /// Whether each name in it has a subpattern.
+    /// Whether each name in the prefix is the name of a subpattern.
     complete: bool,
 }
 
-/// Returns whether the name of a subpattern can contain `c`.
+/// Returns whether `c` can occur in the name of a subpattern.
 fn is_word(c: char) -> bool
     ensures { result ≡ is_word c }
 {
     ((('/' < c) & (c < ':')) | (('@' < c) & (c < '['))) | ((('`' < c) & (c < '{')) | (c == '_'))
 }
 
-/// Returns the longest prefix of a text whose characters a name can contain, and the rest. The
-/// prefix can be empty.
+/// Splits a text after the longest prefix whose characters can all occur in a name. Returns the
+/// prefix, which can be empty, and the rest.
 fn word_in(text: &[char]) -> (&[char], &[char])
     ensures front { result.0.now ≡ word_front text.now }
     ensures rest { result.1.now ≡ word_rest text.now }
@@ -54,7 +54,7 @@ fn word_in(text: &[char]) -> (&[char], &[char])
     (&text[..end], &text[end..])
 }
 
-/// Returns the rest of the text after `(?&`, or `None` if the text does not begin with `(?&`.
+/// Returns the text after `(?&`, or `None` if the text does not begin with `(?&`.
 fn after_opening(text: &[char]) -> Option<&[char]>
     ensures { MatchOption result
         (reference text.now ≡ None)
@@ -66,7 +66,7 @@ fn after_opening(text: &[char]) -> Option<&[char]>
     }
 }
 
-/// Returns the rest of the text after `)`, or `None` if the text does not begin with `)`.
+/// Returns the text after `)`, or `None` if the text does not begin with `)`.
 fn after_closing(text: &[char]) -> Option<&[char]>
     ensures { MatchOption result
         ((name : List ℕ) → closed name text.now ≡ None)
@@ -76,8 +76,8 @@ fn after_closing(text: &[char]) -> Option<&[char]>
     if *first == ')' { Some(rest) } else { None }
 }
 
-/// Returns the name in `(?&name)` at the front of a text, and the rest of the text after the `)`.
-/// Returns `None` if the text does not begin with that form.
+/// Returns the name in the `(?&name)` at the front of a text, and the text after the `)`. Returns
+/// `None` if the text does not begin with a use of this form.
 fn reference_at(text: &[char]) -> Option<(&[char], &[char])>
     ensures { MatchOption result
         (reference text.now ≡ None)
@@ -110,7 +110,7 @@ pub(crate) fn part_at(text: &[char]) -> Option<(TextPart<'_>, &[char])>
     Some((TextPart::Itself(*first), rest))
 }
 
-/// Returns `characters` as a text in UTF-8.
+/// Returns `characters` encoded as UTF-8.
 pub(crate) fn encoded(alloc: Global, characters: &[char]) -> Result<String, AllocError>
     ensures { IfOk result (λ text. string_bytes text ≡ encoded characters.now) }
 {
@@ -121,7 +121,7 @@ pub(crate) fn encoded(alloc: Global, characters: &[char]) -> Result<String, Allo
     Ok(text)
 }
 
-/// Reports that `name` has no subpattern.
+/// Reports that there is no subpattern called `name`.
 fn report_missing(name: &str, span: Span, errors: &mut Errors) -> Result<(), Memory>
     ensures { OnOk result (AddsFault (subpattern_missing span name.now) errors.old errors.new) }
 {
@@ -136,7 +136,8 @@ fn report_missing(name: &str, span: Span, errors: &mut Errors) -> Result<(), Mem
 }
 
 impl Text {
-    /// Appends the text of the subpattern that is called `name`, or reports that it is missing.
+    /// Appends the text of the subpattern that is called `name`, or reports that there is no such
+    /// subpattern.
     fn add_name(
         &mut self,
         lookup: Lookup<'_, '_>,
@@ -158,7 +159,8 @@ impl Text {
         Ok(())
     }
 
-    /// Appends `part`, or the text of the subpattern that it names. Reports a missing subpattern.
+    /// Appends `part` if it is a character, and otherwise the text of the subpattern that is used.
+    /// Reports a missing subpattern.
     fn add(
         &mut self,
         lookup: Lookup<'_, '_>,
@@ -181,15 +183,15 @@ impl Text {
     }
 }
 
-/// Returns the characters of a text.
+/// Returns the characters of `text`.
 pub(crate) fn characters(alloc: Global, text: &str) -> Result<Vec<char>, AllocError>
     ensures { IfOk result (λ v. v.items ≡ chars text.now) }
 {
     text.chars().collect(alloc)
 }
 
-/// Returns the text of `characters` with each subpattern substituted. Reports each missing
-/// subpattern, and returns `None` if there is one.
+/// Returns the text of `characters` with each subpattern substituted. If subpatterns are missing,
+/// reports each of them and returns `None`.
 fn put_together(
     lookup: Lookup<'_, '_>,
     characters: &[char],
@@ -215,8 +217,8 @@ fn put_together(
     Ok(None)
 }
 
-/// Returns `text` with each subpattern substituted. Reports each missing subpattern at `span`, and
-/// returns `None` if there is one.
+/// Returns `text` with each subpattern substituted. If subpatterns are missing, reports each of
+/// them at `span` and returns `None`.
 pub(crate) fn substituted(
     subpatterns: &Subpatterns<'_>,
     text: &str,

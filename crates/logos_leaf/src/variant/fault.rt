@@ -1,4 +1,4 @@
-//! Reports the faults of variants and of the attributes on them, at most one for each call.
+//! Reports the faults of variants and of their attributes. Each call reports at most one fault.
 //! `variant` calls these functions.
 
 ghost use Rattle.std.specs.Prelude.{◌≡◌, ◌++◌, IfOk, OnOk, string_bytes};
@@ -8,7 +8,7 @@ use logos_token::error::{Errors, FaultCode, Memory};
 use logos_token::token::Span;
 use std::alloc::{AllocError, Global};
 
-/// Returns the message for a variant with `count` fields.
+/// Returns the message for a variant with `count` fields, where `count` is not 1.
 fn fields_text(alloc: Global, count: usize) -> Result<String, AllocError>
     ensures { IfOk result (λ text. string_bytes text ≡ fields_text count) }
 {
@@ -18,7 +18,8 @@ fn fields_text(alloc: Global, count: usize) -> Result<String, AllocError>
     Ok(text)
 }
 
-/// Reports a variant with `count` fields in the parentheses at `span`.
+/// Reports that the variant with its fields in the parentheses at `span` has `count` fields instead
+/// of one.
 pub(super) fn report_variant_fields(
     count: usize,
     span: Span,
@@ -30,7 +31,8 @@ pub(super) fn report_variant_fields(
     errors.err(FaultCode::VariantFields, text.as_str(), span)
 }
 
-/// Reports a variant with `count` fields in the parentheses at `span`, unless it has one field.
+/// Reports a variant that does not have exactly one field. `count` is the number of fields, and
+/// `span` is the span of their parentheses.
 pub(super) fn report_count(count: usize, span: Span, errors: &mut Errors) -> Result<(), Memory>
     ensures { OnOk result (errors.new ≡ errors.old ++ count_faults count span) }
 {
@@ -51,7 +53,7 @@ pub(super) fn report_named_fields(span: Span, errors: &mut Errors) -> Result<(),
     )
 }
 
-/// Reports the attribute `error` at `span`.
+/// Reports an `error` attribute at `span`.
 pub(super) fn report_error_variant(span: Span, errors: &mut Errors) -> Result<(), Memory>
     ensures { OnOk result (AddsFault (error_variant span) errors.old errors.new) }
 {
@@ -62,14 +64,14 @@ pub(super) fn report_error_variant(span: Span, errors: &mut Errors) -> Result<()
     )
 }
 
-/// Reports the attribute `token` at `span`, which has no definition.
+/// Reports a `token` attribute without a definition at `span`.
 pub(super) fn report_token_form(span: Span, errors: &mut Errors) -> Result<(), Memory>
     ensures { OnOk result (AddsFault (token_form span) errors.old errors.new) }
 {
     errors.err(FaultCode::TokenForm, "Expected #[token(...)]", span)
 }
 
-/// Reports the attribute `regex` at `span`, which has no definition.
+/// Reports a `regex` attribute without a definition at `span`.
 pub(super) fn report_regex_form(span: Span, errors: &mut Errors) -> Result<(), Memory>
     ensures { OnOk result (AddsFault (regex_form span) errors.old errors.new) }
 {

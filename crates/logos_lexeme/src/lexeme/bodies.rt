@@ -1,5 +1,5 @@
-//! Checks the contents of literals and reads the pieces of strings. `lexeme_at` calls it after it
-//! has found the end of a literal, and `logos_token` calls it to read the values of literals.
+//! Checks the contents of literals and reads the pieces of strings. Called by `lexeme_at` after it
+//! has found the end of a literal, and by `logos_token` to read the values of literals.
 
 ghost use Rattle.std.specs.Prelude.{◌≡◌, ℕ, ◌+◌, ◌^◌, ◌<◌, ◌≤◌, ◌↔◌, ◌==◌, ◌||◌, Bool, true, List, IsTrue, IsFalse, length, slice_index, slice_range, MatchOption};
 ghost use Rattle.logos_lexeme.specs.Views.{digit_value, IsFirst, Steps, Ends, is_simple, simple_value, is_hex, hex_value, greatest_of, digits_between, is_blank, BreaksLine, IsEscape, IsHexEscape, IsUnicodeEscape, IsAllowed, Represents, IsPiece, IsCharacterPiece, IsSound, bytes_of, ReadsByte, IsPlain};
@@ -14,7 +14,8 @@ const LETTER_X: u8 = b'x';
 /// The letter of the escape `\u{..}`.
 const LETTER_U: u8 = b'u';
 
-/// The value of one piece of a string: of an escape, or of a byte that represents itself.
+/// The value of one piece of a string. A piece is an escape, a byte that represents itself, or CR
+/// LF.
 #[derive(Clone, Copy)]
 pub enum Piece {
     /// No bytes: an escaped line break.
@@ -25,7 +26,7 @@ pub enum Piece {
     Character(char),
 }
 
-/// Returns whether `letter` after a backslash is a complete escape.
+/// Returns whether a backslash followed by `letter` is a complete escape.
 #[tactic(auto, unfolding(crate::specs::LiteralBodies::is_simple))]
 fn is_simple(letter: u8) -> bool
     ensures { result ≡ is_simple letter }
@@ -62,7 +63,8 @@ fn is_blank(byte: u8) -> bool
     (byte == b' ') | (byte == b'\t') | (byte == b'\n') | (byte == b'\r')
 }
 
-/// Returns the value of a hexadecimal digit, or `None` if `byte` is not one.
+/// Returns the value of the hexadecimal digit `byte`, or `None` if `byte` is not a hexadecimal
+/// digit.
 fn digit_of(byte: u8) -> Option<u32>
     ensures { MatchOption result
         (IsFalse (is_hex byte))
@@ -71,7 +73,8 @@ fn digit_of(byte: u8) -> Option<u32>
     char::from(byte).to_digit(16)
 }
 
-/// Returns the greatest byte that `\xNN` can denote in a literal of this content.
+/// Returns the greatest byte that `\xNN` can denote in a literal with contents of the kind
+/// `content`.
 fn greatest_of(content: Content) -> u32
     ensures { result ≡ greatest_of content }
 {
@@ -197,8 +200,8 @@ fn unicode_escape(source: &str, at: usize) -> Option<(char, usize)>
     Some((character, brace))
 }
 
-/// Returns the value of the escape at the byte offset `at`, and the byte offset after it. Returns
-/// `None` if no well-formed escape begins there.
+/// Returns the value of the escape at the byte offset `at`, and the byte offset after the escape.
+/// Returns `None` if no well-formed escape begins at `at`.
 fn escape_at(source: &str, content: Content, at: usize) -> Option<(Piece, usize)>
     requires { at ≤ length source.now }
     ensures { MatchOption result
@@ -251,8 +254,8 @@ fn blanks_end(source: &str, from: usize) -> usize
     end
 }
 
-/// Returns whether `byte` can represent itself in a literal of this content, or is part of a
-/// character that can.
+/// Returns whether `byte` can represent itself, or a part of a character, in a literal with
+/// contents of the kind `content`.
 fn is_allowed(content: Content, byte: u8) -> bool
     ensures { IsTrue result ↔ IsAllowed content byte }
 {
@@ -265,9 +268,9 @@ fn is_allowed(content: Content, byte: u8) -> bool
     }
 }
 
-/// Returns the value of the unescaped piece at the byte offset `at`, and the byte offset after it.
-/// The piece is a byte that represents itself, or CR LF, which denotes LF. Returns `None` if
-/// neither is there.
+/// Returns the value of the unescaped piece at the byte offset `at`, and the byte offset after the
+/// piece. The piece is a byte that represents itself, or CR LF, which denotes LF. Returns `None` if
+/// no such piece begins at `at`.
 fn plain_at(source: &str, content: Content, at: usize) -> Option<(Piece, usize)>
     requires { at ≤ length source.now }
     ensures { MatchOption result
@@ -285,7 +288,7 @@ fn plain_at(source: &str, content: Content, at: usize) -> Option<(Piece, usize)>
 }
 
 /// Returns the value of the piece of a string at the byte offset `at`, and the byte offset after
-/// it. Returns `None` if there is no piece. `escapes` is `false` for a raw string.
+/// the piece. Returns `None` if no piece begins at `at`. `escapes` is `false` for a raw string.
 pub fn piece_at(source: &str, escapes: bool, content: Content, at: usize) -> Option<(Piece, usize)>
     requires { at ≤ length source.now }
     ensures { MatchOption result
@@ -319,8 +322,8 @@ fn is_body(source: &str, escapes: bool, content: Content, from: usize, to: usize
     at == to
 }
 
-/// Returns the byte offset after the escape, or the byte that represents itself, at the byte offset
-/// `at`. Returns `None` if neither is there.
+/// Returns the byte offset after the escape at the byte offset `at`, or after the byte at `at` if
+/// the byte represents itself. Returns `None` if there is neither an escape nor such a byte.
 fn character_piece_end(source: &str, content: Content, at: usize) -> Option<usize>
     requires { at ≤ length source.now }
     ensures { MatchOption result
@@ -349,8 +352,9 @@ fn is_character(source: &str, content: Content, from: usize, to: usize) -> bool
     }
 }
 
-/// Returns whether the literal that opens at `from` and ends at `end`, without its suffix, has
-/// well-formed contents. Returns `true` for a number and for anything that is not a literal.
+/// Returns whether the literal with the opening `opens` at `from` has well-formed contents. `end`
+/// is the byte offset after the literal without its suffix. Returns `true` for a number and for
+/// anything that is not a literal.
 pub(crate) fn is_sound(source: &str, from: usize, opens: Opening, end: usize) -> bool
     requires inside { from < length source.now }
     requires ends { Ends source.now from opens end }

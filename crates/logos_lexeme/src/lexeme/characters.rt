@@ -1,5 +1,5 @@
-//! Reads bytes and characters at byte offsets of a source text, and classifies characters. The
-//! modules of this crate and `logos_token` call it.
+//! Reads bytes and characters at byte offsets of a source text, and classifies characters. Called
+//! by the modules of this crate and by `logos_token`.
 
 ghost use Rattle.std.specs.Prelude.{◌≡◌, ◌<◌, ◌≤◌, length, slice_index};
 ghost use Rattle.logos_lexeme.specs.Imports.{IsCharBoundary, character, past, is_space, is_start, is_continuing, is_mark};
@@ -31,7 +31,7 @@ pub(crate) fn past(source: &str, at: usize) -> usize
     at + char_at(source, at).len_utf8()
 }
 
-/// Returns whether a character has the property Pattern_White_Space.
+/// Returns whether a character has the Unicode property `Pattern_White_Space`.
 pub(crate) fn is_space(c: char) -> bool
     ensures { result ≡ is_space c }
 {

@@ -1,4 +1,4 @@
-//! Finds the end of the lexeme or gap that opens at a byte offset. `lexeme_at` calls it after it
+//! Finds the end of the lexeme or gap that opens at a byte offset. Called by `lexeme_at` after it
 //! has classified the opening.
 
 ghost use Rattle.std.specs.Prelude.{◌≡◌, ◌≢◌, ℕ, ◌+◌, ◌-◌, ◌<◌, ◌≤◌, ◌↔◌, length, slice_index, MatchOption, IsTrue};
@@ -44,9 +44,9 @@ fn has_base(source: &str, from: usize) -> bool
     (byte_at(source, from) == b'0') & ((letter == b'x') | (letter == b'o') | (letter == b'b'))
 }
 
-/// Returns the byte offset after the next character of a number: one that continues an identifier,
-/// a decimal point, or the sign of an exponent. Returns `None` if the number ends at `at`. `based`
-/// is whether the number has a base prefix.
+/// Returns the byte offset after the character at `at` if the character continues a number: a
+/// character that continues an identifier, a decimal point, or the sign of an exponent. Returns
+/// `None` if the number ends at `at`. `based` is `true` if the number has a base prefix.
 fn number_step(source: &str, based: bool, at: usize) -> Option<usize>
     requires inside { at < length source.now }
     requires boundary { IsCharBoundary source.now at }
@@ -72,8 +72,8 @@ fn number_step(source: &str, based: bool, at: usize) -> Option<usize>
     None
 }
 
-/// Returns the byte offset after the rest of a number. The rest begins at `from`. `based` is
-/// whether the number has a base prefix.
+/// Returns the byte offset after a number. `from` is the byte offset after its first character.
+/// `based` is `true` if the number has a base prefix.
 fn number_end(source: &str, based: bool, from: usize) -> usize
     requires boundary { IsCharBoundary source.now from }
     requires begun { 0 < from }
@@ -117,7 +117,8 @@ fn line_end(source: &str, from: usize) -> usize
 }
 
 /// Takes one step at `at` inside `depth` nested block comments. Returns the number of comments that
-/// are open after the step, and the byte offset after it. Returns `None` at the end of the source.
+/// are open after the step, and the byte offset after the step. Returns `None` at the end of the
+/// source.
 fn block_step(source: &str, depth: usize, at: usize) -> Option<(usize, usize)>
     requires open { 0 < depth }
     requires shallow { depth ≤ at + 1 }
@@ -141,7 +142,7 @@ fn block_step(source: &str, depth: usize, at: usize) -> Option<(usize, usize)>
 }
 
 /// Returns the byte offset after a block comment whose text begins at `from`, after its `/*`.
-/// Returns `None` if it has no end.
+/// Returns `None` if the comment has no end.
 fn block_end(source: &str, from: usize) -> Option<usize>
     requires { from ≤ length source.now + 2 }
     ensures { MatchOption result
@@ -168,7 +169,7 @@ fn width_of(byte: u8) -> usize
 }
 
 /// Returns the byte offset of the first `quote` from `from` on that is not escaped. Returns `None`
-/// if there is none.
+/// if there is no such quote.
 fn quote_at(source: &str, quote: u8, from: usize) -> Option<usize>
     requires visible { 0 < quote }
     requires no_backslash { quote ≢ 92 }
@@ -188,7 +189,7 @@ fn quote_at(source: &str, quote: u8, from: usize) -> Option<usize>
 }
 
 /// Returns the byte offset after the first `quote` from `body` on that is not escaped. Returns
-/// `None` if there is none.
+/// `None` if there is no such quote.
 fn quote_end(source: &str, quote: u8, body: usize) -> Option<usize>
     requires visible { 0 < quote }
     requires no_backslash { quote ≢ 92 }
@@ -200,7 +201,7 @@ fn quote_end(source: &str, quote: u8, body: usize) -> Option<usize>
     Some(at + 1)
 }
 
-/// Returns whether there is a quote at the byte offset `at`, followed by `count` `#`.
+/// Returns whether a quote followed by `count` `#` characters begins at the byte offset `at`.
 fn is_raw_end(source: &str, count: u8, at: usize) -> bool
     requires { at < length source.now }
     ensures { IsTrue result ↔ IsRawEnd count source.now at }
@@ -216,8 +217,8 @@ fn is_raw_end(source: &str, count: u8, at: usize) -> bool
     true
 }
 
-/// Returns the byte offset after a raw string whose contents begin at `body` and which has `count`
-/// `#` around its quotes. Returns `None` if it has no end.
+/// Returns the byte offset after a raw string with `count` `#` characters on each side. The
+/// contents of the string begin at `body`. Returns `None` if the string has no end.
 fn raw_end(source: &str, count: u8, body: usize) -> Option<usize>
     ensures { MatchOption result
         ((to : ℕ) → IsRaw count source.now body to → ⊥)
@@ -233,7 +234,7 @@ fn raw_end(source: &str, count: u8, body: usize) -> Option<usize>
     None
 }
 
-/// Returns the byte offset after the identifier at `at`, or `None` if no identifier begins there.
+/// Returns the byte offset after the identifier at `at`, or `None` if no identifier begins at `at`.
 fn name_end(source: &str, at: usize) -> Option<usize>
     requires { IsCharBoundary source.now at }
     ensures { MatchOption result
@@ -244,7 +245,7 @@ fn name_end(source: &str, at: usize) -> Option<usize>
     Some(letters_end(source, past(source, name)))
 }
 
-/// Returns the byte offset after the suffix of a literal that ends at `at`. The suffix can be
+/// Returns the byte offset after the suffix of a literal. The suffix begins at `at`, and can be
 /// empty.
 pub(crate) fn suffix_end(source: &str, at: usize) -> usize
     requires { IsCharBoundary source.now at }
@@ -257,7 +258,8 @@ pub(crate) fn suffix_end(source: &str, at: usize) -> usize
     }
 }
 
-/// Returns the number of bytes before the `r`, `'` or quote of a literal of this content.
+/// Returns the number of bytes before the `r`, `'` or quote of a literal with contents of the kind
+/// `content`.
 pub fn prefix_of(content: Content) -> usize
     ensures { result ≡ prefix_of content }
 {
@@ -267,9 +269,8 @@ pub fn prefix_of(content: Content) -> usize
     }
 }
 
-/// Returns the byte offset after the lexeme or gap that opens at `from` with the opening `opens`,
-/// without the suffix of a literal. Returns `None` if the lexeme or gap has no end, or nothing
-/// opens.
+/// Returns the byte offset after the lexeme or gap with the opening `opens` at `from`, without the
+/// suffix of a literal. Returns `None` if the lexeme or gap has no end, or if `opens` is `Nothing`.
 pub fn end_of(source: &str, from: usize, opens: Opening) -> Option<usize>
     requires inside { from < length source.now }
     requires boundary { IsCharBoundary source.now from }

@@ -1,4 +1,4 @@
-//! Classifies the lexeme or gap that opens at a byte offset of a source text. `lexeme_at` calls it
+//! Classifies the lexeme or gap that opens at a byte offset of a source text. Called by `lexeme_at`
 //! before it searches for the end.
 
 ghost use Rattle.std.specs.Prelude.{◌≡◌, ◌+◌, ◌<◌, ◌≤◌, min, length, slice_index};
@@ -18,7 +18,7 @@ pub enum Content {
     C,
 }
 
-/// The class of a lexeme or gap by its first characters.
+/// The class of a lexeme or gap, determined by its first characters.
 #[derive(Clone, Copy)]
 pub enum Opening {
     /// White space.
@@ -57,8 +57,8 @@ fn count_hashes(source: &str, from: usize) -> usize
     count
 }
 
-/// Returns the raw string that opens at `at`, the byte offset after its `r`. Returns `None` if none
-/// opens there.
+/// Returns the opening of a raw string. `at` is the byte offset after its `r`. Returns `None` if
+/// there is no such string.
 #[tactic(auto, unfolding(crate::specs::LexemeOpenings::raw_opening))]
 fn raw_opening(content: Content, source: &str, at: usize) -> Option<Opening>
     requires { at ≤ length source.now + 2 }
@@ -74,8 +74,8 @@ fn raw_opening(content: Content, source: &str, at: usize) -> Option<Opening>
     Some(Opening::Raw(content, count as u8))
 }
 
-/// Returns the string that opens at `at`, the byte offset after its `b` or `c` if it has one.
-/// Returns `None` if none opens there.
+/// Returns the opening of a string. `at` is the byte offset of the string, or the byte offset after
+/// its `b` or `c`. Returns `None` if there is no such string.
 #[tactic(auto, unfolding(crate::specs::LexemeOpenings::string_opening))]
 fn string_opening(content: Content, source: &str, at: usize) -> Option<Opening>
     requires { at ≤ length source.now + 1 }
@@ -91,8 +91,8 @@ fn string_opening(content: Content, source: &str, at: usize) -> Option<Opening>
     None
 }
 
-/// Returns the character literal whose contents begin at `at`, after a `'`. Returns `None` if there
-/// is none.
+/// Returns the opening of the character literal whose contents begin at `at`, after a `'`. Returns
+/// `None` if there is no such literal.
 #[tactic(auto, unfolding(crate::specs::LexemeOpenings::character_opening))]
 fn character_opening(source: &str, at: usize) -> Option<Opening>
     requires { IsCharBoundary source.now at }
@@ -108,8 +108,8 @@ fn character_opening(source: &str, at: usize) -> Option<Opening>
     None
 }
 
-/// Returns the byte or byte string literal that opens at `at`, the byte offset after its `b`.
-/// Returns `None` if none opens there.
+/// Returns the opening of a byte literal or byte string literal. `at` is the byte offset after its
+/// `b`. Returns `None` if there is no such literal.
 #[tactic(auto, unfolding(crate::specs::LexemeOpenings::bytes_opening))]
 fn bytes_opening(source: &str, at: usize) -> Option<Opening>
     requires { at ≤ length source.now }
@@ -121,7 +121,8 @@ fn bytes_opening(source: &str, at: usize) -> Option<Opening>
     string_opening(Content::Bytes, source, at)
 }
 
-/// Returns the literal that opens at a byte offset, or `None` if none opens there.
+/// Returns the opening of the literal at a byte offset, or `None` if no literal opens at the
+/// offset.
 #[tactic(auto, unfolding(crate::specs::LexemeOpenings::literal_opening))]
 fn literal_opening(source: &str, at: usize) -> Option<Opening>
     requires inside { at < length source.now }
@@ -176,7 +177,8 @@ fn block_kind(source: &str, at: usize) -> LexemeKind
     }
 }
 
-/// Returns the comment that opens at a byte offset, or `None` if none opens there.
+/// Returns the opening of the comment at a byte offset, or `None` if no comment opens at the
+/// offset.
 #[tactic(auto, unfolding(crate::specs::LexemeOpenings::comment_opening))]
 fn comment_opening(source: &str, at: usize) -> Option<Opening>
     requires { at ≤ length source.now }
@@ -230,7 +232,7 @@ fn spacing(source: &str, at: usize) -> Spacing
     Spacing::Joint
 }
 
-/// Returns the kind of delimiter that a character is, or `None` if it is not a delimiter.
+/// Returns the kind of the delimiter `c`, or `None` if `c` is not a delimiter.
 #[tactic(auto, unfolding(crate::specs::LexemeOpenings::delimiter_kind))]
 fn delimiter_kind(c: char) -> Option<LexemeKind>
     ensures { result ≡ delimiter_kind c }
@@ -257,7 +259,7 @@ fn delimiter_kind(c: char) -> Option<LexemeKind>
 }
 
 /// Returns the kind of the lexeme or gap of one character at a byte offset, or `None` if there is
-/// none.
+/// no such lexeme or gap.
 #[tactic(auto, unfolding(crate::specs::LexemeOpenings::single_kind))]
 fn single_kind(source: &str, at: usize) -> Option<LexemeKind>
     requires inside { at < length source.now }
@@ -279,7 +281,7 @@ fn single_kind(source: &str, at: usize) -> Option<LexemeKind>
 }
 
 /// Returns the opening at a byte offset at which neither a literal nor a comment opens. Returns
-/// `Nothing` if no lexeme or gap begins there.
+/// `Nothing` if no lexeme or gap begins at the offset.
 #[tactic(auto, unfolding(crate::specs::LexemeOpenings::other_opening))]
 fn other_opening(source: &str, at: usize) -> Opening
     requires inside { at < length source.now }
@@ -298,7 +300,7 @@ fn other_opening(source: &str, at: usize) -> Opening
     Opening::Nothing
 }
 
-/// Returns whether there is a `'` directly before a byte offset.
+/// Returns whether a `'` directly precedes a byte offset.
 #[tactic(auto, unfolding(crate::specs::LexemeOpenings::follows_apostrophe))]
 fn follows_apostrophe(source: &str, at: usize) -> bool
     ensures { result ≡ follows_apostrophe source.now at }
@@ -322,8 +324,8 @@ fn is_lifetime_name(source: &str, at: usize) -> bool
     is_start(char_at(source, at))
 }
 
-/// Returns the literal that opens at a byte offset, or `None` if none opens there. No literal opens
-/// where the name of a lifetime begins.
+/// Returns the opening of the literal at a byte offset, or `None` if no literal opens at the
+/// offset. No literal opens where the name of a lifetime begins.
 #[tactic(auto, unfolding(crate::specs::LexemeOpenings::literal_at))]
 fn literal_at(source: &str, at: usize) -> Option<Opening>
     requires inside { at < length source.now }
@@ -336,8 +338,8 @@ fn literal_at(source: &str, at: usize) -> Option<Opening>
     literal_opening(source, at)
 }
 
-/// Returns the opening at a byte offset: a literal if one opens there, otherwise a comment,
-/// otherwise the lexeme or gap that the character can begin, or `Nothing`.
+/// Returns the opening at a byte offset: of a literal, otherwise of a comment, and otherwise of any
+/// other lexeme or gap. Returns `Nothing` if no lexeme or gap begins at the offset.
 #[tactic(auto, unfolding(crate::specs::LexemeOpenings::opening_at))]
 pub fn opening_at(source: &str, at: usize) -> Opening
     requires inside { at < length source.now }
@@ -353,7 +355,7 @@ pub fn opening_at(source: &str, at: usize) -> Opening
     other_opening(source, at)
 }
 
-/// Returns the kind of a lexeme or gap with the opening `opens`, and `Gap` for `Nothing`.
+/// Returns the kind of a lexeme or gap with the opening `opens`, or `Gap` if `opens` is `Nothing`.
 pub(crate) fn kind_of(opens: Opening) -> LexemeKind
     ensures { result ≡ kind_of opens }
 {

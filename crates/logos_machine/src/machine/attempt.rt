@@ -1,6 +1,6 @@
 //! The slow path of an attempt, which enters state after state and records the last mark passed.
-//! `walk` takes it if entries do not determine the result, and `part` uses its functions for inputs
-//! whose rest is not known.
+//! `walk` takes this path if entries do not determine the result. `part` uses functions of this
+//! module for inputs whose rest is not known.
 
 ghost use Rattle.std.specs.Prelude.{◌≡◌, ◌+◌, ◌-◌, ◌<◌, ◌≤◌, ℕ, max, length, slice_get, drop, option_map, IfSome, IsTrue, IsCharBoundary, ◌^◌, ◌↔◌};
 ghost use Rattle.logos_machine.specs.Views.{state_at, mark_by, Does, Attempts, EndsError, target, looped, marked, IsStatus, StaysWithin, context_of, status_of, turn_of, found_of};
@@ -16,7 +16,8 @@ const CONTINUES: u8 = 128;
 /// The byte after the last UTF-8 continuation byte.
 const LEADS: u8 = 192;
 
-/// An attempt as it enters a state: the state, the offset in the input, and the last mark passed.
+/// The status of an attempt that enters a state: the state, the offset in the input, and the last
+/// mark passed.
 #[derive(Clone, Copy)]
 pub(super) struct Status {
     pub state: usize,
@@ -30,10 +31,10 @@ pub(super) struct Status {
 #[derive(Clone, Copy)]
 pub(super) enum Turn {
     Enters(Status),
-    /// The end of the attempt. The first field is the last mark passed, and the second the offset
-    /// at which the attempt ends.
+    /// The end of the attempt. The first field is the last mark passed, and the second field is the
+    /// offset at which the attempt ends.
     Acts(Option<(LeafId, usize)>, usize),
-    /// The end of the input, at which the attempt began.
+    /// The end of an attempt that began at the end of the input.
     Returns,
 }
 
@@ -52,12 +53,12 @@ pub(super) enum Found {
 pub(super) struct LoopEnd {
     pub offset: usize,
     /// The target of the byte at `offset`, or `None` at the end of the input. The inner option is
-    /// `None` if the byte leads nowhere.
+    /// `None` if the byte leads to no state.
     pub target: Option<Option<usize>>,
 }
 
-/// Returns the step in the state that an attempt from `start` has entered. `at` is the attempt as
-/// it enters the state.
+/// Returns the step in the state that an attempt from `start` has entered. `at` is the status of
+/// the attempt when it enters the state.
 #[inline]
 fn run_state(code: &Code, input: &[u8], start: usize, at: Status) -> Turn
     requires { IsStatus code.now input.now start (status_of at) }
@@ -81,7 +82,7 @@ fn run_state(code: &Code, input: &[u8], start: usize, at: Status) -> Turn
 }
 
 /// Returns the end of the fast loop of a state that is entered at `offset`, with the target of the
-/// byte at that end.
+/// byte at this end.
 #[inline]
 pub(super) fn stop_of(code: &Code, input: &[u8], state: usize, offset: usize) -> LoopEnd
     requires { state < length code.now.states }
@@ -126,8 +127,8 @@ fn loop_end(code: &Code, input: &[u8], state: usize, offset: usize) -> usize
     }
 }
 
-/// Returns the last mark passed after a state with this sign. `offset` is the end of the state's
-/// fast loop, and `context` is the last mark passed before the state.
+/// Returns the last mark passed after a state with the sign `sign`. `offset` is the end of the
+/// state's fast loop, and `context` is the last mark passed before the state.
 #[inline]
 pub(super) fn marked(
     sign: Sign,
@@ -144,8 +145,9 @@ pub(super) fn marked(
     }
 }
 
-/// Returns the end of the error of an attempt from `start` that ends at `offset`: the first offset
-/// from `offset` on that is after `start`, and in UTF-8 mode between characters.
+/// Returns the end of the error of an attempt from `start` that ends at `offset`. This is the first
+/// offset, from `offset` on, that is greater than `start` and, in UTF-8 mode, on a character
+/// boundary.
 #[cold]
 #[inline(never)]
 pub(super) fn error_end(code: &Code, input: &[u8], start: usize, offset: usize) -> usize
@@ -162,7 +164,7 @@ pub(super) fn error_end(code: &Code, input: &[u8], start: usize, offset: usize) 
     }
 }
 
-/// Returns the first character boundary at `from` or after it.
+/// Returns the first character boundary at or after `from`.
 fn boundary_from(input: &[u8], from: usize) -> usize
     requires { from ≤ length input.now }
     ensures past { from ≤ result }
@@ -183,8 +185,8 @@ fn is_continuation(byte: u8) -> bool
     matches!(byte, 0x80..=0xBF)
 }
 
-/// Returns the result of an attempt from `start` on that records the marks passed, and the number
-/// of states that it entered.
+/// Makes an attempt at `start` that records the marks passed. Returns the result and the number of
+/// states that the attempt entered.
 #[cold]
 #[inline(never)]
 pub(super) fn attempt_with_marks(code: &Code, input: &[u8], start: usize) -> (Found, usize)

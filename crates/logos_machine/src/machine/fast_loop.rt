@@ -1,5 +1,5 @@
-//! Finds the end of a fast loop: the first byte that does not pass its test. Both paths of an
-//! attempt call it in a state that has a fast loop.
+//! Finds the end of a fast loop: the first byte that does not pass the test of the loop. Both paths
+//! of an attempt call `stop` in a state that has a fast loop.
 
 ghost use Rattle.std.specs.Prelude.{◌≡◌, ◌+◌, ◌/◌, ◌%◌, ◌<◌, ◌≤◌, length, map, not, slice_index};
 ghost use Rattle.logos_machine.specs.Views.{mask_l, passes_test, NamesTest, StopsAt};
@@ -7,9 +7,9 @@ ghost use Rattle.logos_machine.specs.Views.{mask_l, passes_test, NamesTest, Stop
 use logos_code::code::Code;
 use std::simd::prelude::*;
 
-/// Returns the index of the first byte at `from` or after it that does not pass the test, or the
-/// length of the input if there is none. Tests sixteen bytes at once, without a branch for each
-/// byte.
+/// Returns the index of the first byte at or after `from` that does not pass the test, or the
+/// length of the input if there is no such byte. Tests sixteen bytes at once, without a branch for
+/// each byte.
 #[inline(always)]
 pub(super) fn stop(code: &Code, test: usize, input: &[u8], from: usize) -> usize
     requires test { NamesTest code.now test }
@@ -39,16 +39,15 @@ fn stopping(code: &Code, test: usize, block: &[u8; 16]) -> u64
     (near | far).simd_eq(u8x16::splat(0)).to_bitmask()
 }
 
-/// For each upper half of a byte below 128, the number in which only the bit of that index is set.
-/// For the upper halves of other bytes, 0.
+/// The entries for the upper halves of bytes. For a byte below 128, the entry has only the bit set
+/// whose index is the upper half. For any other byte, the entry is 0.
 const NEAR: [u8; 16] = [1, 2, 4, 8, 16, 32, 64, 128, 0, 0, 0, 0, 0, 0, 0, 0];
 
-/// For each upper half of a byte from 128 on, the number in which only the bit whose index is 8
-/// less is set. For the upper halves of other bytes, 0.
+/// The entries for the upper halves of bytes. For a byte from 128 on, the entry has only the bit
+/// set whose index is the upper half minus 8. For any other byte, the entry is 0.
 const FAR: [u8; 16] = [0, 0, 0, 0, 0, 0, 0, 0, 1, 2, 4, 8, 16, 32, 64, 128];
 
-/// Returns for each byte an entry of the mask: that at the index `at` plus the lower half of the
-/// byte.
+/// Returns, for each byte, the entry of the mask at the index `at` plus the lower half of the byte.
 #[inline(always)]
 fn by_low(mask: &[u8; 32], at: usize, bytes: u8x16) -> u8x16
     requires { at ≤ 16 }
@@ -57,7 +56,7 @@ fn by_low(mask: &[u8; 32], at: usize, bytes: u8x16) -> u8x16
     u8x16::from_slice(&mask[at..]).swizzle_dyn_within::<16>(bytes & u8x16::splat(15))
 }
 
-/// Returns for each byte the entry of `bits` whose index is the upper half of the byte.
+/// Returns, for each byte, the entry of `bits` whose index is the upper half of the byte.
 #[inline(always)]
 fn by_high(bits: [u8; 16], bytes: u8x16) -> u8x16
     ensures { result ≡ map (λ b. slice_index bits (b / 16)) bytes }

@@ -1,5 +1,5 @@
-//! Lexes a part of an input without knowledge of the bytes after the part. `logos_stream` calls it
-//! for each item, and `logos_relex` for the items of a chunk.
+//! Lexes a part of an input without knowledge of the bytes after the part. `logos_stream` calls
+//! `next_within` for each item, and `logos_relex` calls it for the items of a chunk.
 
 ghost use Rattle.std.specs.Prelude.{◌≡◌, ◌<◌, ◌≤◌, ◌+◌, drop, length, false, List, ℕ, MatchBool};
 ghost use Rattle.logos_machine.specs.Views.{IsStatus, answers_of, fork_of, looped, status_of, state_at, DoesWithin, HasBranches, IsClosed, IsOpen, IsSettled, KeepsGiven, Moves, NoBranches, TakesMatches};
@@ -10,28 +10,28 @@ use logos_code::code::{Code, Fork};
 use logos_hir::leaf::LeafId;
 use logos_token::token::Span;
 
-/// The result of a call of `next_within`, on a part of an input.
+/// The result of `next_within` on a part of an input.
 #[derive(Clone, Copy, Debug)]
 pub enum Within<'i> {
     /// The next item, regardless of the bytes after the part.
     Item(Item<'i>),
-    /// A request for more bytes: the next match attempt has reached the end of the part, in a state
-    /// from which more bytes, or the end of the input, can continue it.
+    /// A request for more bytes. The next match attempt has reached the end of the part, in a state
+    /// from which more bytes or the end of the input can continue the attempt.
     More,
-    /// The end of the input. Only a call for the last part returns it.
+    /// The end of the input. Returned only for the last part.
     End,
 }
 
 impl<'c, 's, 'i, C: Fn(LeafId, &[u8]) -> Action> Lexer<'c, 's, 'i, C> {
-    /// Returns the next item of an input of which the lexer has a part. If `last` is `true`, the
-    /// part is the last one, and the function returns the result of `next`, with `End` for `None`.
-    /// Otherwise more bytes may follow, and the function returns an item only if no byte after the
-    /// part can change it, and `More` otherwise.
+    /// Returns the next item of an input of which the lexer has only a part. If `last` is `true`,
+    /// the part is the last one, and the function returns the result of `next`, with `End` for
+    /// `None`. Otherwise more bytes may follow, and the function returns an item only if no byte
+    /// after the part can change the item, and `More` otherwise.
     ///
-    /// After `More`, the lexer is after the matches without an item, with an empty span. The next
-    /// match attempt has reached the end of the part, and more bytes or the end of the input can
-    /// continue it. To continue, append more bytes to those of `remainder`, and make a lexer for
-    /// all of them.
+    /// After `More`, the lexer has passed the matches without an item, and its span is empty. The
+    /// next match attempt has reached the end of the part, and more bytes or the end of the input
+    /// can continue the attempt. To continue, append more bytes to the bytes of `remainder`, and
+    /// create a lexer for all these bytes.
     pub fn next_within(&mut self, last: bool) -> Within<'i>
         requires { TakesMatches C.Fn self.old.code self.old.callback }
         ensures keeps { KeepsGiven self.old self.new }
@@ -47,7 +47,7 @@ impl<'c, 's, 'i, C: Fn(LeafId, &[u8]) -> Action> Lexer<'c, 's, 'i, C> {
         }
     }
 
-    /// Returns the next item if no byte after the part can change it, and `More` otherwise.
+    /// Returns the next item if no byte after the part can change the item, and `More` otherwise.
     fn next_in_part(&mut self) -> Within<'i>
         requires { TakesMatches C.Fn self.old.code self.old.callback }
         ensures keeps { KeepsGiven self.old self.new }
@@ -81,31 +81,32 @@ impl<'c, 's, 'i, C: Fn(LeafId, &[u8]) -> Action> Lexer<'c, 's, 'i, C> {
     }
 }
 
-/// The step that an attempt makes in a state if it has a part of the input.
+/// The step that an attempt on a part of an input makes in a state.
 #[derive(Clone, Copy)]
 enum Move {
     Enters(Status),
-    /// The end of the attempt. The first field is the last mark passed, and the second the offset
-    /// at which the attempt ends.
+    /// The end of the attempt. The first field is the last mark passed, and the second field is the
+    /// offset at which the attempt ends.
     Acts(Option<(LeafId, usize)>, usize),
-    /// The end of the part, from which more bytes or the end of the input can continue the attempt.
+    /// The end of the part. More bytes or the end of the input can continue the attempt.
     Waits,
 }
 
-/// The result of an attempt that has a part of the input. The last number of a match or an error is
-/// the number of states that the attempt entered.
+/// The result of an attempt on a part of an input. The last number of a match or an error is the
+/// number of states that the attempt entered.
 #[derive(Clone, Copy)]
 enum Settled {
     /// A match of this leaf, up to this offset.
     Matched(LeafId, usize, usize),
     /// No match. The error ends at this offset.
     Failed(usize, usize),
-    /// No result: the attempt has reached the end of the part, and can continue.
+    /// No result. The attempt has reached the end of the part and can continue.
     Open,
 }
 
 /// Returns the step in the state that an attempt from `start` has entered if no byte after the part
-/// can change the step, and `Waits` otherwise. `at` is the attempt as it enters the state.
+/// can change the step, and `Waits` otherwise. `at` is the status of the attempt when it enters the
+/// state.
 fn move_in_part(code: &Code, part: &[u8], start: usize, at: Status) -> Move
     requires { IsStatus code.now part.now start (status_of at) }
     ensures { Moves code.now part.now start (status_of at) result }
@@ -125,9 +126,9 @@ fn move_in_part(code: &Code, part: &[u8], start: usize, at: Status) -> Move
     }
 }
 
-/// Returns the step in a state whose fast loop reaches the end of the part: `Waits`, unless an
-/// attempt that has read a byte is in a state without transitions. Such a state ends the attempt at
-/// once, so that the match of `;` needs no byte after it.
+/// Returns the step in a state whose fast loop reaches the end of the part. The step is `Waits`,
+/// unless the attempt has read a byte and the state has no transitions. Such a state ends the
+/// attempt at once: for example, a match of `;` needs no byte after the match.
 fn move_at_end(code: &Code, part: &[u8], start: usize, at: Status) -> Move
     requires status { IsStatus code.now part.now start (status_of at) }
     requires past { length part.now
@@ -163,7 +164,8 @@ fn is_closed(code: &Code, state: usize) -> bool
     true
 }
 
-/// Returns whether a fork has a branch. A jump table counts as a branch, whatever its entries are.
+/// Returns whether a fork has a branch. A jump table counts as a branch, even if all its entries
+/// are empty.
 fn has_branches(fork: &Fork) -> bool
     ensures { (tables : List (List ℕ)) → MatchBool result
         (HasBranches (fork_of tables fork.now)) (NoBranches (fork_of tables fork.now)) }
@@ -174,8 +176,8 @@ fn has_branches(fork: &Fork) -> bool
     }
 }
 
-/// Returns the result of an attempt from `start` on if it depends only on the part, and `Open`
-/// otherwise.
+/// Returns the result of an attempt from `start` on if the result depends only on the part, and
+/// `Open` otherwise.
 fn attempt_in_part(code: &Code, part: &[u8], start: usize) -> Settled
     requires { start ≤ length part.now }
     ensures { IsSettled code.now part.now start result }

@@ -1,4 +1,4 @@
-//! The fast path of an attempt: one load of an entry for each byte. Called by `Lexer::next` and
+//! The fast path of an attempt, which loads one entry for each byte. Called by `Lexer::next` and
 //! `logos_scan`.
 
 ghost use Rattle.std.specs.Prelude.{◌≡◌, ◌<◌, ◌≤◌, ◌/◌, ◌%◌, length, slice_index_or};
@@ -18,7 +18,7 @@ use logos_hir::leaf::LeafId;
 /// states that the attempt entered.
 #[derive(Clone, Copy)]
 pub enum Outcome {
-    /// A skipped match up to this offset.
+    /// A match up to this offset, which is skipped.
     Skips(usize),
     /// A match of this leaf that is a token.
     Emits(LeafId, usize, usize),
@@ -26,12 +26,12 @@ pub enum Outcome {
     CallsBack(LeafId, usize, usize),
     /// No match. The numbers are the end of the error, and the number of states that were entered.
     Fails(usize, usize),
-    /// The end of the input, at which the attempt began, and the number of states that were
-    /// entered.
+    /// The end of an attempt that began at the end of the input. The number is the number of states
+    /// that were entered.
     Ends(usize),
 }
 
-/// Returns the outcome of an attempt from the offset `start` of the input on.
+/// Returns the outcome of an attempt from the offset `start` in the input on.
 #[inline(always)]
 pub fn attempt(code: &Code, input: &[u8], start: usize) -> Outcome
     requires { start ≤ length input.now }
@@ -52,8 +52,8 @@ pub fn attempt(code: &Code, input: &[u8], start: usize) -> Outcome
 }
 
 /// Returns the outcome of an attempt from `start` on that records the marks passed. Only
-/// `attempt_with_marks` is called out of line: its result is in memory, and the outcome is created
-/// from that result, so that the compiler can keep the outcome in registers.
+/// `attempt_with_marks` is called out of line. Its result is in memory, but the outcome is created
+/// from the result inline, so that the compiler can keep the outcome in registers.
 #[inline(always)]
 fn attempt_slowly(code: &Code, input: &[u8], start: usize) -> Outcome
     requires { start ≤ length input.now }
@@ -108,9 +108,9 @@ fn end_of(code: &Code, input: &[u8], start: usize, last: (u32, usize, usize, usi
     attempt_slowly(code, input, start)
 }
 
-/// Returns the outcome of an attempt that ends before a byte that leads nowhere. `last` is as for
-/// `end_of`. If the last mark passed is known for the state of `last`, the attempt need not be
-/// repeated.
+/// Returns the outcome of an attempt that ends before a byte that leads to no state. `last` has the
+/// same meaning as in `end_of`. The attempt is repeated unless the last mark passed is known for
+/// the state of `last`.
 #[inline(always)]
 fn stuck(code: &Code, input: &[u8], start: usize, last: (u32, usize, usize, usize)) -> Outcome
     requires sound { IsSound code.now }
@@ -175,9 +175,9 @@ fn walk(code: &Code, input: &[u8], start: usize, first: u32) -> (u32, usize, usi
     (code.last_entry(row_start), at, before, row_start)
 }
 
-/// Returns the entry after a fast loop, and the offset of that entry's byte. `entry` is the entry
-/// of the byte at the offset `at`, which stays in the state. At the end of the input the result is
-/// the state's entry for the end.
+/// Returns the entry after a fast loop, and the offset of the byte of this entry. `entry` is the
+/// entry of the byte at the offset `at`, and leads back to the state. At the end of the input, the
+/// returned entry is the state's entry for the end.
 #[inline(always)]
 fn look_far(code: &Code, input: &[u8], row_start: usize, at: usize, entry: u32) -> (u32, usize)
     requires sound { IsSound code.now }

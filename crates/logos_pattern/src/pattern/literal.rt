@@ -1,5 +1,5 @@
-//! The literals of patterns, with their values. The readers of attributes make literals, and
-//! `pattern` makes patterns of them.
+//! Defines the literals of patterns, with their values. The readers of attributes make literals,
+//! and `pattern` makes patterns from them.
 
 ghost use Rattle.std.specs.Prelude.{◌≡◌, ◌<◌, ◌++◌, OnOk, string_bytes, IfOk, IfSome, option_map};
 ghost use Rattle.logos_pattern.specs.Views.{flat_map, chars, is_metacharacter, escaped_character, upper_digit, escaped_byte, escaped_bytes, IsValue, token_of, held_value, is_unicode, held_bytes, escaped};
@@ -26,9 +26,9 @@ pub struct ByteStringLiteral<'s> {
 /// The literal of a `token`, `regex` or `skip`.
 #[derive(Drop)]
 pub enum Literal<'s> {
-    /// A string: its pattern matches characters.
+    /// A string, whose pattern matches characters.
     Utf8(StringLiteral<'s>),
-    /// A byte string: its pattern matches bytes.
+    /// A byte string, whose pattern matches bytes.
     Bytes(ByteStringLiteral<'s>),
 }
 
@@ -42,7 +42,7 @@ fn is_metacharacter(character: char) -> bool
     .contains(&character)
 }
 
-/// Returns the hexadecimal digit of `value`, which is below 16, in upper case.
+/// Returns the uppercase hexadecimal digit of `value`, which must be less than 16.
 fn upper_digit(value: u8) -> char
     requires { value < 16 }
     ensures { result ≡ upper_digit value }
@@ -75,9 +75,9 @@ fn push_text(text: &mut String, value: &str) -> Result<(), AllocError>
     Ok(())
 }
 
-/// Appends `byte`, from a byte string, to the text of a pattern: `\xNN` if it is above 7F, and its
-/// character otherwise. If `literal` is `true`, a `\` precedes a character with a special meaning,
-/// so that the pattern matches exactly the byte.
+/// Appends a byte of a byte string to the text of a pattern. The byte is appended as `\xNN` if it
+/// is greater than 0x7F, and as its character otherwise. If `literal` is `true`, a `\` precedes a
+/// character with a special meaning, so that the pattern matches exactly the byte.
 fn push_byte(text: &mut String, literal: bool, byte: u8) -> Result<(), AllocError>
     ensures { OnOk result (string_bytes text.new ≡
         string_bytes text.old ++ escaped_byte literal byte) }
@@ -93,9 +93,9 @@ fn push_byte(text: &mut String, literal: bool, byte: u8) -> Result<(), AllocErro
     text.push(char::from(byte))
 }
 
-/// Appends `value`, a byte string, to the text of a pattern, where each byte above 7F is `\xNN`. If
-/// `literal` is `true`, each character with a special meaning has a `\` before it, so that the
-/// pattern matches exactly the bytes.
+/// Appends the value of a byte string to the text of a pattern. Each byte greater than 0x7F is
+/// appended as `\xNN`. If `literal` is `true`, a `\` precedes each character with a special
+/// meaning, so that the pattern matches exactly the value.
 fn push_bytes(text: &mut String, literal: bool, value: &[u8]) -> Result<(), AllocError>
     ensures { OnOk result (string_bytes text.new ≡
         string_bytes text.old ++ escaped_bytes literal value.now) }
@@ -107,8 +107,8 @@ fn push_bytes(text: &mut String, literal: bool, value: &[u8]) -> Result<(), Allo
 }
 
 impl<'s> Literal<'s> {
-    /// Reads the value of `token`, a string or a byte string, without its suffix. Returns `None`
-    /// for any other literal.
+    /// Reads the value of `token`, without the literal's suffix. Returns `None` if `token` is
+    /// neither a string nor a byte string.
     ///
     /// # Errors
     ///
@@ -141,7 +141,7 @@ impl<'s> Literal<'s> {
         }
     }
 
-    /// Returns whether the literal is a string, so that its pattern matches characters.
+    /// Returns whether the literal is a string. The pattern of a string matches characters.
     pub fn unicode(&self) -> bool
         ensures { result ≡ is_unicode self.now }
     {
@@ -158,7 +158,7 @@ impl<'s> Literal<'s> {
         self.token().span
     }
 
-    /// Returns the bytes of the literal's value. The bytes of a string are its UTF-8.
+    /// Returns the bytes of the literal's value. The value of a string is encoded as UTF-8.
     pub fn value(&self) -> &[u8]
         ensures { result.now ≡ held_bytes self.now }
     {
@@ -168,9 +168,9 @@ impl<'s> Literal<'s> {
         }
     }
 
-    /// Returns the value as the text of a pattern, where each byte of a byte string above 7F is
-    /// `\xNN`. If `literal` is `true`, each of ``\ . + * ? ( ) | [ ] { } ^ $ # & - ~`` has a `\`
-    /// before it, so that the pattern matches exactly the value.
+    /// Returns the value as the text of a pattern. Each byte of a byte string that is greater than
+    /// 0x7F is printed as `\xNN`. If `literal` is `true`, a `\` precedes each of ``\ . + * ? ( ) |
+    /// [ ] { } ^ $ # & - ~``, so that the pattern matches exactly the value.
     ///
     /// # Errors
     ///

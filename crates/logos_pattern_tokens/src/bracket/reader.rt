@@ -13,7 +13,7 @@ use logos_hir::property::AsciiKind;
 use logos_hir::sets::operands::SetOperator;
 use std::alloc::Global;
 
-/// Returns the number of the character, or the value of the byte.
+/// Returns the code point of a character, or the value of a byte.
 pub fn code_of(symbol: Symbol) -> u32
     ensures { result ≡ code_of symbol }
 {
@@ -23,8 +23,8 @@ pub fn code_of(symbol: Symbol) -> u32
     }
 }
 
-/// Returns whether the text begins with a `-` that continues a range: one before a character other
-/// than `]` and `-`.
+/// Returns whether the text begins with a `-` that continues a range: a `-` before a character
+/// other than `]` and `-`.
 fn begins_range(text: &[char]) -> bool
     ensures { result ≡ begins_range text.now }
 {
@@ -34,8 +34,8 @@ fn begins_range(text: &[char]) -> bool
     }
 }
 
-/// Returns whether the character `c` and the first one of `rest` are an operator: `&&`, `--` or
-/// `~~`.
+/// Returns whether the character `c` and the first character of `rest` form an operator: `&&`, `--`
+/// or `~~`.
 fn begins_operator(c: char, rest: &[char]) -> bool
     ensures { result ≡ begins_operator c rest.now }
 {
@@ -45,7 +45,7 @@ fn begins_operator(c: char, rest: &[char]) -> bool
     }
 }
 
-/// Returns the character or the byte of an escape, or `None` if the escape is neither.
+/// Returns the character or the byte that an escape denotes, or `None` if it denotes neither.
 fn symbol_of(atom: Atom) -> Option<Symbol>
     ensures { result ≡ symbol_of atom }
 {
@@ -56,7 +56,7 @@ fn symbol_of(atom: Atom) -> Option<Symbol>
     }
 }
 
-/// Returns the fault of the escape `atom`, which is not a character, at the end of a range:
+/// Returns the fault of a range that ends with the escape `atom`, where `atom` is not a character:
 /// `ClassRange` for a class, and `EscapeUnknown` otherwise.
 fn no_symbol(atom: Atom) -> Kind {
     match atom {
@@ -65,13 +65,14 @@ fn no_symbol(atom: Atom) -> Kind {
     }
 }
 
-/// Reads the last symbol of a range from the text after its `-`. Returns it and the rest of the
-/// text.
+/// Reads the last symbol of a range from the text after the `-` of the range. Returns the symbol
+/// and the rest of the text.
 ///
 /// # Errors
 ///
-/// Returns `Unclosed` if the text is empty, `ClassRange` if a class follows, `EscapeUnknown` if
-/// another escape follows that is not a character, and otherwise the errors of `escape_at`.
+/// Returns `Unclosed` if the text is empty, `ClassRange` if it begins with a class, `EscapeUnknown`
+/// if it begins with another escape that is not a character, and otherwise the errors of
+/// `escape_at`.
 #[tactic(auto, unfolding(crate::specs::bracket::Reader::last_at))]
 fn last_at(alloc: Global, text: &[char]) -> Result<(Symbol, &[char]), Fault>
     ensures { Yields (λ x. (x.0, x.1.now)) result (last_at text.now) }
@@ -129,7 +130,7 @@ fn range_at(alloc: Global, first: Symbol, rest: &[char]) -> Result<(BracketToken
 ///
 /// # Errors
 ///
-/// Returns `ClassRange` if the text continues a range, since a class cannot be the start of a
+/// Returns `ClassRange` if the text continues a range, because a class cannot be the start of a
 /// range.
 #[tactic(auto, unfolding(crate::specs::bracket::Reader::lone_at))]
 fn lone_at(item: BracketItem, rest: &[char]) -> Result<(BracketToken, &[char]), Fault>
@@ -146,8 +147,8 @@ fn lone_at(item: BracketItem, rest: &[char]) -> Result<(BracketToken, &[char]), 
 ///
 /// # Errors
 ///
-/// Returns `EscapeUnknown` if the escape is neither a character nor a class; otherwise the errors
-/// of `range_at` or `lone_at`.
+/// Returns `EscapeUnknown` if the escape is neither a character nor a class, and otherwise the
+/// errors of `range_at` or `lone_at`.
 #[tactic(auto, unfolding(crate::specs::bracket::Reader::escape_item))]
 fn escape_item(alloc: Global, atom: Atom, rest: &[char]) -> Result<(BracketToken, &[char]), Fault>
     ensures { Yields (λ x. (x.0, x.1.now)) result (escape_item atom rest.now) }
@@ -165,8 +166,8 @@ fn escape_item(alloc: Global, atom: Atom, rest: &[char]) -> Result<(BracketToken
 ///
 /// # Errors
 ///
-/// Returns `Unclosed` if the text is empty, otherwise the fault of the element, and `Memory` if
-/// memory runs out.
+/// Returns `Unclosed` if the text is empty, the fault of the element if it is malformed, and
+/// `Memory` if memory runs out.
 #[tactic(auto, unfolding(crate::specs::bracket::Reader::item_at))]
 fn item_at(alloc: Global, text: &[char]) -> Result<(BracketToken, &[char]), Fault>
     ensures { Yields (λ x. (x.0, x.1.now)) result (item_at text.now) }
@@ -181,7 +182,7 @@ fn item_at(alloc: Global, text: &[char]) -> Result<(BracketToken, &[char]), Faul
     }
 }
 
-/// Returns the number of dashes at the front, and the rest of the text.
+/// Returns the number of `-` at the front of the text, and the rest of the text.
 fn dashes_at(text: &[char]) -> (usize, &[char])
     ensures count { result.0 ≡ (dashes_from 0 text.now).0 }
     ensures rest { result.1.now ≡ (dashes_from 0 text.now).1 }
@@ -195,8 +196,8 @@ fn dashes_at(text: &[char]) -> (usize, &[char])
     (count, rest)
 }
 
-/// Reads the literals after `[` or `[^`: one `]`, or all `-` that follow. Returns the literals and
-/// the rest of the text.
+/// Reads the literals after `[` or `[^`: one `]`, or all of the `-` that follow. Returns the
+/// literals and the rest of the text.
 #[tactic(auto, unfolding(crate::specs::bracket::Reader::lead_at))]
 fn lead_at(text: &[char]) -> (Lead, &[char])
     ensures lead { result.0 ≡ (lead_at text.now).0 }
@@ -211,8 +212,8 @@ fn lead_at(text: &[char]) -> (Lead, &[char])
     }
 }
 
-/// Reads the text after `[`. Returns whether `^` negates the bracket, the literals after `[` or
-/// `[^`, and the rest of the text.
+/// Reads the text after `[`. Returns whether `^` negates the bracket, the literals at the front of
+/// the bracket, and the rest of the text.
 #[tactic(auto, unfolding(crate::specs::bracket::Reader::open_at))]
 pub fn open_at(text: &[char]) -> (bool, Lead, &[char])
     ensures negated { result.0 ≡ (open_at text.now).0 }
@@ -231,8 +232,9 @@ pub fn open_at(text: &[char]) -> (bool, Lead, &[char])
     }
 }
 
-/// Reads the `]` after `[:name:`. Returns the class with the name `name` and the rest of the text,
-/// or `None` if there is no `]` or no class of ASCII characters has the name.
+/// Reads the `]` after `[:name:`. Returns the class with the name `name` and the rest of the text.
+/// Returns `None` if the text does not begin with `]`, or if no class of ASCII characters has the
+/// name.
 #[tactic(auto, unfolding(crate::specs::bracket::Reader::class_end))]
 fn class_end<'t>(
     negated: bool,
@@ -303,7 +305,7 @@ fn inner_at(text: &[char]) -> (BracketToken, &[char])
     }
 }
 
-/// Returns the operator that is written as the character `c` twice. `c` is `&`, `-` or `~`.
+/// Returns the operator that is written as `c` twice, where `c` is `&`, `-` or `~`.
 fn operator_of(c: char) -> SetOperator
     ensures { result ≡ operator_of c }
 {
@@ -314,13 +316,13 @@ fn operator_of(c: char) -> SetOperator
     }
 }
 
-/// Reads the token at the front of the text, which is inside brackets, and returns it with the
-/// rest.
+/// Reads the token at the front of a text inside brackets. Returns the token and the rest of the
+/// text.
 ///
 /// # Errors
 ///
-/// Returns `Unclosed` if the text is empty, otherwise the fault of the token, and `Memory` if
-/// memory runs out.
+/// Returns `Unclosed` if the text is empty, the fault of the token if it is malformed, and `Memory`
+/// if memory runs out.
 #[tactic(auto, unfolding(crate::specs::bracket::Reader::bracket_token_at))]
 pub fn bracket_token_at(alloc: Global, text: &[char]) -> Result<(BracketToken, &[char]), Fault>
     ensures { Yields (λ x. (x.0, x.1.now)) result (bracket_token_at text.now) }

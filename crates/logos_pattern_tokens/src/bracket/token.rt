@@ -13,11 +13,11 @@ pub enum Symbol {
     Byte(u8),
 }
 
-/// A part of an operand that is not a nested bracket. A `bool` is whether the part is negated.
+/// A part of an operand that is not a nested bracket. The `bool` is `true` if the part is negated.
 #[derive(Clone, Copy)]
 pub enum BracketItem {
     One(Symbol),
-    /// A range such as `a-z`, by its first and its last symbol.
+    /// A range such as `a-z`, with its first and its last symbol.
     Range(Symbol, Symbol),
     /// A class `\d`, `\s` or `\w`, or `\D`, `\S` or `\W` if it is negated.
     Perl(PerlKind, bool),
@@ -27,10 +27,10 @@ pub enum BracketItem {
     Ascii(AsciiKind, bool),
 }
 
-/// The literals directly after `[` or `[^`, which have no other meaning there.
+/// The literals directly after `[` or `[^`. They have no other meaning at this point.
 #[derive(Clone, Copy)]
 pub enum Lead {
-    /// A number of `-`, which can be 0.
+    /// Any number of `-`, including none.
     Dashes(usize),
     /// One `]`.
     Bracket,

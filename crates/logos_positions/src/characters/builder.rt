@@ -1,5 +1,5 @@
-//! Builds the table that reads a character of a class. `prepare` calls `table_of` for each class of
-//! characters.
+//! Builds the table for reading the characters of a class. `prepare` calls `table_of` for each
+//! class of characters.
 
 ghost use Rattle.std.specs.Prelude.{zero, min, ◌≡◌, ℕ, ◌+◌, ◌-◌, ◌*◌, ◌/◌, ◌%◌, ◌^◌, ◌<◌, ◌≤◌, ◌||◌, OnOk, IfOk, IfSome, Bool, Some, None, slice_index_or, length, vec_len};
 ghost use Rattle.logos_positions.specs.Views.{MatchOption, size, lead, after_byte, is_char_in, IsReaderOf, pairs, in_ranges, AreParts, from_floor};
@@ -21,8 +21,8 @@ pub struct CharacterRest {
     pub offsets: Vec<CharRange>,
 }
 
-/// The characters that begin with a given first byte: those from `floor` on among the numbers that
-/// `left` further bytes distinguish, from `start` on.
+/// The numbers of the characters with a given first byte: the numbers from `floor` on in a block
+/// that begins at `start`. `left` further bytes distinguish the numbers of the block.
 #[derive(Clone, Copy)]
 struct Block {
     left: u8,
@@ -50,7 +50,8 @@ fn number_of(rests: &mut IndexSet<CharacterRest>, rest: CharacterRest) -> Result
 }
 
 /// Returns the number of the row for a rest of `left` bytes with `offsets`, and adds the row to
-/// `rests` if it is new. Returns 0 if no byte is left, and `None` if there are no offsets.
+/// `rests` if it is new. Returns `None` if there are no offsets, and otherwise 0 if no byte is
+/// left.
 ///
 /// # Errors
 ///
@@ -80,8 +81,8 @@ fn position(
     Ok(Some(i))
 }
 
-/// Returns the number of the row for the characters of `ranges` in `block`, those that begin with a
-/// given first byte, and adds the row if it is new. Returns `None` if there are no such characters.
+/// Returns the number of the row for the characters of `ranges` in `block`, and adds the row to
+/// `rests` if it is new. Returns `None` if there are no such characters.
 ///
 /// # Errors
 ///
@@ -157,8 +158,8 @@ fn block_of(byte: u8) -> Option<Block>
     None
 }
 
-/// Returns the number of the row after the first byte `byte`, and adds the row if it is new.
-/// Returns `None` if no character of `ranges` begins with the byte.
+/// Returns the number of the row after the first byte `byte`, and adds the row to `rests` if it is
+/// new. Returns `None` if no character of `ranges` begins with the byte.
 ///
 /// # Errors
 ///
@@ -184,8 +185,8 @@ fn first_for(
     row_for(alloc, rests, ranges, block)
 }
 
-/// Returns the offsets that remain of `rest` after the continuation byte with the number `part`,
-/// from 0 to 63. `left` is the number of bytes after that byte.
+/// Returns the offsets that remain of `rest` after a continuation byte. `part` is the number of the
+/// byte, from 0 to 63, and `left` is the number of bytes after the byte.
 ///
 /// # Errors
 ///
@@ -211,9 +212,9 @@ fn after(
     clip(alloc, &rest.offsets, window)
 }
 
-/// Returns the number of the row after `row` and the continuation byte with the number `part`, from
-/// 0 to 63, and adds the row to `rests` if it is new. Returns `None` if no character continues with
-/// that byte.
+/// Returns the number of the row after `row` and a continuation byte, and adds the row to `rests`
+/// if it is new. `part` is the number of the byte, from 0 to 63. Returns `None` if no character
+/// continues with the byte.
 ///
 /// # Errors
 ///
@@ -247,7 +248,7 @@ fn next_for(
     position(rests, left, offsets)
 }
 
-/// Returns the size of the block of numbers that `left` continuation bytes distinguish.
+/// Returns the size of a block of numbers that `left` continuation bytes distinguish.
 fn block_size(left: u8) -> u32
     requires { left ≤ 3 }
     ensures size { result ≡ size left }
@@ -261,8 +262,8 @@ fn block_size(left: u8) -> u32
     }
 }
 
-/// Returns, for each first byte, the number of the row after it, or `None` if there is no such row.
-/// Adds the rows that are new to `rests`.
+/// Returns, for each first byte, the number of the row after the byte, or `None` if there is no
+/// such row. Adds new rows to `rests`.
 ///
 /// # Errors
 ///
@@ -289,8 +290,8 @@ fn first_cells(
     Ok(cells)
 }
 
-/// Appends to `cells`, for each continuation byte, the number of the row after `row` and that byte,
-/// or `None` if there is no such row. Adds the rows that are new to `rests`.
+/// Appends to `cells`, for each continuation byte, the number of the row after `row` and the byte,
+/// or `None` if there is no such row. Adds new rows to `rests`.
 ///
 /// # Errors
 ///
@@ -322,8 +323,8 @@ fn follow_row(
     Ok(())
 }
 
-/// Returns the number of the row after each row and each continuation byte, or `None` where there
-/// is no such row. Adds the rows that are new to `rests`, and follows these rows too.
+/// Returns, for each row and each continuation byte, the number of the row after them, or `None` if
+/// there is no such row. Adds new rows to `rests`; the result includes the rows after the new rows.
 ///
 /// # Errors
 ///
@@ -350,7 +351,7 @@ fn follow_cells(
     Ok(cells)
 }
 
-/// Returns the list of rows that contains only row 0, at which a whole character has been read.
+/// Returns the list that contains only row 0. At row 0 a whole character has been read.
 ///
 /// # Errors
 ///
@@ -366,7 +367,7 @@ fn start(alloc: Global) -> Result<IndexSet<CharacterRest>, AllocError>
     Ok(rests)
 }
 
-/// Builds the table that reads the characters of `ranges`.
+/// Builds the table for reading the characters of `ranges`.
 ///
 /// # Errors
 ///

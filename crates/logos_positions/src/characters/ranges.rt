@@ -13,7 +13,8 @@ pub struct CharRange {
     pub last: u32,
 }
 
-/// The numbers from `floor` on in the block of `size` numbers from `start` on.
+/// A part of a block: the numbers from `floor` on in the block of `size` numbers that begins at
+/// `start`.
 #[derive(Clone, Copy)]
 pub struct BlockPart {
     pub floor: u32,
@@ -22,7 +23,7 @@ pub struct BlockPart {
 }
 
 /// Returns the offsets, in the block of `window`, of the numbers that are in both `range` and
-/// `window`. Returns `None` if there are none.
+/// `window`. Returns `None` if there are no such numbers.
 fn clip_range(range: CharRange, window: BlockPart) -> Option<CharRange>
     requires fits { window.start + window.size < 2 ^ 32 }
     requires some { 0 < window.size }
@@ -90,7 +91,7 @@ pub fn clip(
     Ok(out)
 }
 
-/// Appends the range from `first` to `last` to `out`, unless it is empty.
+/// Appends the range from `first` to `last` to `out`, unless the range is empty.
 ///
 /// # Errors
 ///
@@ -105,7 +106,7 @@ fn push_range(out: &mut Vec<CharRange>, first: u32, last: u32) -> Result<(), All
     Ok(())
 }
 
-/// Appends the characters of `range` to `out`, without surrogates and without numbers past the last
+/// Appends the characters of `range` to `out`. Leaves out surrogates and numbers past the last
 /// character.
 ///
 /// # Errors
@@ -120,8 +121,7 @@ fn push_scalars(out: &mut Vec<CharRange>, range: Range) -> Result<(), AllocError
     push_range(out, range.first.max(0xE000), range.last.min(0x10_FFFF))
 }
 
-/// Returns the characters of the ranges, without surrogates and without numbers past the last
-/// character.
+/// Returns the characters of `ranges`. Leaves out surrogates and numbers past the last character.
 ///
 /// # Errors
 ///

@@ -1,5 +1,5 @@
-//! A table that reads a character of a class, byte by byte. Steps on a class of characters look up
-//! the next row in the table.
+//! A table for reading a character of a class byte by byte. A step on a class of characters looks
+//! up the next row in the table.
 
 ghost use Rattle.std.specs.Prelude.{◌<◌, ◌^◌};
 
@@ -12,8 +12,8 @@ pub struct CharacterTable {
     /// The row after each first byte, indexed by the byte, or `None` if no character of the class
     /// begins with the byte.
     pub first: Vec<Option<usize>>,
-    /// The row after each continuation byte, or `None` if no character continues with it: 64
-    /// entries for each row.
+    /// The row after each row and each continuation byte, or `None` if no character continues with
+    /// the byte. Each row has 64 entries.
     pub follow: Vec<Option<usize>>,
     ghost some: { 0 < rows },
     ghost few: { rows < 2 ^ 16 },

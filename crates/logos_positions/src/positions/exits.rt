@@ -1,5 +1,5 @@
-//! Determines whether a tree can be left: whether a match of it ends at a point. Steps call `exits`
-//! for the body of a repetition without an upper bound, and `trees` calls it for each tree.
+//! Determines whether a tree can be left: whether a match of the tree ends at a point. Steps call
+//! `exits` for the body of a repetition without an upper bound, and `trees` calls it for each tree.
 
 ghost use Rattle.std.specs.Prelude.{max, ◌≡◌, ℕ, ◌+◌, ◌*◌, ◌-◌, ◌^◌, ◌<◌, ◌⊎◌, ◌↔◌, IsTrue, Bool, false, List, length};
 ghost use Rattle.logos_positions.specs.Views.{Core, Exits, IsFirstFrom, IsRising, Has, spelled, in_front, up_to, at_least, repeated, count_of, IsOrdered, Look, test_at, core_of, is_measured};
@@ -12,7 +12,7 @@ use crate::positions::set::{
 };
 
 /// Returns whether the tree `node` at `spot` can be left at the point `at`. `marks` are the
-/// positions that read the byte before the point, ascending.
+/// positions that read the byte before the point, in ascending order.
 #[cycle(exits)]
 pub(crate) fn exits(node: &Node, marks: &[usize], spot: TreeSpot, at: Context) -> bool
     requires fits { spot.base + core.width (core_of node.now) < 2 ^ 64 }
@@ -33,9 +33,9 @@ pub(crate) fn exits(node: &Node, marks: &[usize], spot: TreeSpot, at: Context) -
     exits_node(node, marks, spot, at)
 }
 
-/// Returns whether a tree that is not entered can be left at the point `at`. `own` are its
-/// positions in the set `marks`, at least one. Branches of alternations without a position are
-/// skipped.
+/// Returns whether the tree `node`, which is not entered, can be left at the point `at`. `own` are
+/// the positions of the tree in the set `marks`; there must be at least one. Branches of
+/// alternations without a position in the set are skipped.
 #[cycle(exits)]
 fn exits_marked(node: &Node, marks: &[usize], own: OwnPositions, at: Context) -> bool
     requires fits { own.base + core.width (core_of node.now) < 2 ^ 64 }
@@ -106,8 +106,8 @@ fn exits_node(node: &Node, marks: &[usize], spot: TreeSpot, at: Context) -> bool
     }
 }
 
-/// Returns whether a literal can be left: whether its last position is in the set `marks`, or, if
-/// it is empty, whether it is entered.
+/// Returns whether a literal can be left. An empty literal can be left if it is entered, and any
+/// other literal if its last position is in the set `marks`.
 fn exits_literal(text: &[u8], marks: &[usize], spot: TreeSpot) -> bool
     requires fits { spot.base + length text.now < 2 ^ 64 }
     requires rising { IsRising marks.now }
@@ -120,8 +120,8 @@ fn exits_literal(text: &[u8], marks: &[usize], spot: TreeSpot) -> bool
     has_mark(marks, spot.base + text.len() - 1)
 }
 
-/// Returns whether a repetition of at least `copies.count` copies of `body`, and of at most `most`
-/// if that is not `None`, can be left at the point `at`.
+/// Returns whether a repetition of `body` can be left at the point `at`. The repetition has at
+/// least `copies.count` copies, and at most `most` unless `most` is `None`.
 #[cycle(exits)]
 fn exits_repeat(
     body: &Node,
@@ -151,7 +151,8 @@ fn exits_repeat(
     exits_up_to(body, rest, marks, at)
 }
 
-/// Returns whether a repetition of `copies` or more copies of `body` can be left at the point `at`.
+/// Returns whether a repetition of `body` at least `copies.count` times can be left at the point
+/// `at`.
 #[cycle(exits)]
 fn exits_at_least(body: &Node, copies: Copies, marks: &[usize], at: Context) -> bool
     requires fits { copies.base + copies.each * max copies.count 1 < 2 ^ 64 }
@@ -177,9 +178,9 @@ fn exits_at_least(body: &Node, copies: Copies, marks: &[usize], at: Context) -> 
     exits(body, marks, copies.at(fronts.count, front), at)
 }
 
-/// Returns the number of copies in `rest` after the first one that are like it: they have the same
-/// positions, and are entered exactly if the first one is. These copies can be left exactly if the
-/// first one can be. `left` is whether the first copy can be left.
+/// Returns the number of consecutive copies in `rest`, after the first copy, that have the same
+/// positions as the first copy and are entered exactly if the first copy is. These copies can be
+/// left exactly if the first copy can be. `left` is `true` if the first copy can be left.
 fn alike_exits(marks: &[usize], rest: Copies, left: bool) -> usize
     requires rising { IsRising marks.now }
     requires fits { rest.base + rest.each * rest.count < 2 ^ 64 }
@@ -195,9 +196,8 @@ fn alike_exits(marks: &[usize], rest: Copies, left: bool) -> usize
     alike_copies(marks, rest)
 }
 
-/// Returns whether the last of `copies` can be left at the point `at`, where each copy is entered
-/// if the one before it can be left. Without copies, returns whether the first one would be
-/// entered.
+/// Returns whether the last of `copies` can be left at the point `at`. Each copy after the first is
+/// entered if the preceding copy can be left. Returns `copies.entered` if there are no copies.
 #[cycle(exits)]
 fn exits_copies(body: &Node, copies: Copies, marks: &[usize], at: Context) -> bool
     requires fits { copies.base + copies.each * copies.count < 2 ^ 64 }
@@ -221,7 +221,8 @@ fn exits_copies(body: &Node, copies: Copies, marks: &[usize], at: Context) -> bo
     left
 }
 
-/// Returns whether a repetition of at most these copies of `body` can be left at the point `at`.
+/// Returns whether a repetition of `body` at most `copies.count` times can be left at the point
+/// `at`.
 #[cycle(exits)]
 fn exits_up_to(body: &Node, copies: Copies, marks: &[usize], at: Context) -> bool
     requires fits { copies.base + copies.each * copies.count < 2 ^ 64 }

@@ -1,5 +1,5 @@
-//! Evaluates look-around assertions from the kind of the byte before a point and the byte after it.
-//! Steps and exits call `holds` for each assertion of a tree.
+//! Evaluates look-around assertions from the kind of the byte before a point and the byte after the
+//! point. Steps and exits call `holds` for each assertion of a tree.
 
 ghost use Rattle.std.specs.Prelude.{◌≡◌, Some, is_none};
 ghost use Rattle.logos_positions.specs.Views.{is_byte, side_before, kind_of_byte, test_at, is_word_byte};
@@ -8,10 +8,10 @@ ghost use Rattle.logos_hir.specs.Looks as looks;
 use logos_hir::hir::Look;
 
 /// The kind of the byte before a point. Look-around assertions at the point depend on no other
-/// property of that byte.
+/// property of the byte.
 #[derive(Clone, Copy, PartialEq, Eq, Hash)]
 pub enum ByteKind {
-    /// There is no byte: the point is the start of the input.
+    /// No byte: the point is the start of the input.
     Start,
     /// A byte that no look-around assertion can depend on.
     Unseen,

@@ -6,8 +6,8 @@ ghost use Rattle.logos_positions.specs.Marks.{IsRising, IsSet, Has, HasBetween, 
 use crate::node::Copies;
 use std::alloc::AllocError;
 
-/// Returns the index of the first position in `marks` that is at least `position`. This index is
-/// known to be between `low` and `high`, inclusive.
+/// Returns the index of the first position in `marks` that is at least `position`. The index must
+/// be between `low` and `high`, inclusive.
 fn first_between(marks: &[usize], low: usize, high: usize, position: usize) -> usize
     requires rising { IsRising marks.now }
     requires order { low ≤ high }
@@ -30,7 +30,7 @@ fn first_between(marks: &[usize], low: usize, high: usize, position: usize) -> u
 }
 
 /// Returns the index of the first position in `marks` that is at least `from`, or the number of
-/// positions if there is none.
+/// positions if there is no such position.
 pub fn first_from(marks: &[usize], from: usize) -> usize
     requires { IsRising marks.now }
     ensures { IsFirstFrom marks.now from result }
@@ -56,8 +56,7 @@ pub fn any_mark(marks: &[usize], from: usize, width: usize) -> bool
     i < marks.len() && marks[i] - from < width
 }
 
-/// The positions of a tree that are in a set: those at the indexes from `from` to `to`, without
-/// `to`.
+/// The positions of a tree that are in a set: the positions at the indexes `from..to` of the set.
 #[derive(Clone, Copy)]
 pub struct OwnPositions {
     /// The first position of the tree.
@@ -66,7 +65,8 @@ pub struct OwnPositions {
     pub to: usize,
 }
 
-/// Returns the indexes, in the set `marks`, of the `width` positions from `base` on.
+/// Returns the positions of a tree that are in the set `marks`. The tree has `width` positions from
+/// `base` on.
 pub fn own_positions(marks: &[usize], base: usize, width: usize) -> OwnPositions
     requires rising { IsRising marks.now }
     requires fits { base + width < 2 ^ 64 }
@@ -82,8 +82,8 @@ pub fn own_positions(marks: &[usize], base: usize, width: usize) -> OwnPositions
 }
 
 impl OwnPositions {
-    /// Returns the positions below `middle`, and those from `middle` on as the positions of a tree
-    /// that begins there.
+    /// Returns the positions below `middle` and the positions from `middle` on. The latter are
+    /// returned as the positions of a tree that begins at `middle`.
     pub fn parted(self, marks: &[usize], middle: usize) -> (OwnPositions, OwnPositions)
         requires rising { IsRising marks.now }
         requires order { self.from ≤ self.to }
@@ -113,8 +113,8 @@ impl OwnPositions {
     }
 }
 
-/// Returns the number of copies without a position that come before the first copy with one.
-/// Returns 0 if the first copy is entered.
+/// Returns the number of leading copies that have no position in `marks`. Returns 0 if the first
+/// copy is entered.
 fn empty_copies(marks: &[usize], copies: Copies) -> usize
     requires { IsRising marks.now }
     ensures bound { result ≤ copies.count }
@@ -137,9 +137,11 @@ fn empty_copies(marks: &[usize], copies: Copies) -> usize
     ((marks[i] - copies.base) / copies.each).min(copies.count)
 }
 
-/// Returns the number of the first copy from `done` on that is entered or has a position, or the
-/// number of copies if there is none. Only the copy with the number `done` can be entered without a
-/// position before it: it is if `entered` is `true`.
+/// Returns the number of the first copy, from the copy with the number `done` on, that is entered
+/// or has a position in `marks`. Returns the number of copies if there is no such copy.
+///
+/// `entered` is `true` if the copy with the number `done` is entered. If it is not, a later copy
+/// can be entered only after a copy with a position.
 pub fn next_copy(marks: &[usize], copies: Copies, done: usize, entered: bool) -> usize
     requires rising { IsRising marks.now }
     requires fits { copies.base + copies.each * copies.count < 2 ^ 64 }
@@ -162,9 +164,9 @@ pub fn next_copy(marks: &[usize], copies: Copies, done: usize, entered: bool) ->
     done + empty_copies(marks, rest)
 }
 
-/// Returns whether a copy has the same positions as the first of `copies`. The positions of the
-/// first copy are at the indexes from `from` to `to`, without `to`, in `marks`, those of the other
-/// copy begin at the index `at`, and `shift` is the distance between the two copies.
+/// Returns whether another copy has the same positions as the first of `copies`. In `marks`, the
+/// positions of the first copy are at the indexes `from..to`, and the positions of the other copy
+/// begin at the index `at`. `shift` is the distance between the two copies.
 fn is_marked_alike(
     marks: &[usize],
     from: usize,
@@ -200,8 +202,8 @@ fn is_marked_alike(
     copies.base + shift + copies.each <= marks[at + i]
 }
 
-/// Returns the number of consecutive copies after the first one that have the same positions as the
-/// first one.
+/// Returns the number of consecutive copies after the first copy that have the same positions as
+/// the first copy.
 pub fn alike_copies(marks: &[usize], copies: Copies) -> usize
     requires rising { IsRising marks.now }
     requires fits { copies.base + copies.each * copies.count < 2 ^ 64 }
@@ -227,8 +229,7 @@ pub fn alike_copies(marks: &[usize], copies: Copies) -> usize
     more
 }
 
-/// Appends copies of the positions at the indexes from `from` to `to`, without `to`, each increased
-/// by `shift`.
+/// Appends the positions at the indexes `from..to`, each increased by `shift`, to `positions`.
 ///
 /// # Errors
 ///
@@ -262,7 +263,7 @@ pub(crate) fn push_moved(
     Ok(())
 }
 
-/// Inserts `position` in order, unless it is in the set `marks`.
+/// Inserts `position` into the set `marks` in order, unless the set contains it already.
 ///
 /// # Errors
 ///

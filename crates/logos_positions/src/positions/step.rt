@@ -1,6 +1,6 @@
-//! Steps from the positions that read one byte to those that read the next byte. `tree` and `trees`
-//! call `step` for each tree. Each step appends the positions to `next`, and returns whether its
-//! tree can be left before the byte.
+//! Steps from the positions that read one byte to the positions that read the next byte. `tree` and
+//! `trees` call `step` for each tree. Each step adds the positions of its tree that read the byte
+//! to `next`, and returns whether the tree can be left before the byte.
 
 ghost use Rattle.std.specs.Prelude.{max, ◌≡◌, ℕ, ◌+◌, ◌-◌, ◌*◌, ◌^◌, ◌<◌, ◌≤◌, ◌⊎◌, IsTrue, IfOk, OnOk, IfSome, ◌↔◌, Bool, false, Option, Some, List, length, slice_get, slice_index};
 ghost use Rattle.logos_positions.specs.Views.{Core, IsFirstFrom, IsRising, IsSet, Has, spelled, in_front, up_to, at_least, repeated, count_of, IsOrdered, Stepped, Owes, is_in, pairs, Look, test_at, core_of, is_measured, reader_of};
@@ -18,12 +18,13 @@ use crate::positions::set::{
 use logos_hir::hir::Range;
 use std::alloc::AllocError;
 
-/// A byte that a step reads, with the positions and the point before it.
+/// A byte that a step reads, with the point before the byte and the positions that read the
+/// preceding byte.
 #[derive(Clone, Copy)]
 pub struct ReadByte<'m> {
     /// The byte.
     pub byte: u8,
-    /// The positions that read the byte before, ascending.
+    /// The positions that read the preceding byte, in ascending order.
     pub marks: &'m [usize],
     /// The point before the byte.
     pub at: Context,
@@ -42,9 +43,8 @@ pub fn has_byte(ranges: &[Range], byte: u8) -> bool
     false
 }
 
-/// Steps on the position of a class, which has one byte: appends it to `next` if it reads the byte.
-/// `fits` is whether the class contains the byte. Returns whether the class can be left before the
-/// byte.
+/// Steps on a tree with one position: appends the position to `next` if it reads the byte. `fits`
+/// is `true` if the tree matches the byte. Returns whether the tree can be left before the byte.
 ///
 /// # Errors
 ///
@@ -72,8 +72,8 @@ fn step_byte(
     Ok(left)
 }
 
-/// Steps on a class of bytes with `ranges`: appends its position to `next` if it reads the byte.
-/// Returns whether the class can be left before the byte.
+/// Steps on the class of bytes with `ranges`: appends the position of the class to `next` if it
+/// reads the byte. Returns whether the class can be left before the byte.
 ///
 /// # Errors
 ///
@@ -94,8 +94,8 @@ fn step_bytes(
     step_byte(fits, by, spot, next)
 }
 
-/// Steps on the literal `text`: appends its positions that read the byte to `next`. Returns whether
-/// the literal can be left before the byte.
+/// Steps on the literal `text`: appends to `next` the positions of the literal that read the byte.
+/// Returns whether the literal can be left before the byte.
 ///
 /// # Errors
 ///
@@ -132,8 +132,8 @@ fn step_literal(
     Ok(left)
 }
 
-/// Appends the position after `position` to `next`, if it belongs to the literal `text`, whose
-/// positions begin at `base`, and reads `byte`.
+/// Appends the position `position + 1` to `next` if it belongs to the literal `text` and reads
+/// `byte`. The positions of the literal begin at `base`.
 ///
 /// # Errors
 ///
@@ -161,8 +161,9 @@ fn push_after(
     Ok(())
 }
 
-/// Steps on a literal that is not entered, where `own` are its positions in the set: appends its
-/// positions that read the byte to `next`. Returns whether the literal can be left before the byte.
+/// Steps on the literal `text`, which is not entered: appends to `next` the positions of the
+/// literal that read the byte. `own` are the positions of the literal in the set. Returns whether
+/// the literal can be left before the byte.
 ///
 /// # Errors
 ///
@@ -191,8 +192,8 @@ fn step_marked_literal(
     Ok(by.marks[own.to - 1] + 1 == own.base + text.len())
 }
 
-/// Inserts the position of `row` into `next`, if there is one, for a class of characters with
-/// `rows` rows whose positions begin at `base`.
+/// Inserts the position of `row`, a row of a class of characters, into `next`. The class has `rows`
+/// rows, and its positions begin at `base`. Does nothing if `row` is `None` or at least `rows`.
 ///
 /// # Errors
 ///
@@ -218,8 +219,8 @@ fn insert_row(
     insert_mark(next, base + row)
 }
 
-/// Steps on a class of characters: adds its positions that read the byte to `next`. Returns whether
-/// the class can be left before the byte.
+/// Steps on a class of characters: inserts into `next` the positions of the class that read the
+/// byte. Returns whether the class can be left before the byte.
 ///
 /// # Errors
 ///
@@ -259,8 +260,8 @@ fn step_characters(
     Ok(left)
 }
 
-/// Adds the positions of the tree `node` at `spot` that read the byte to `next`, and returns
-/// whether the tree can be left before the byte.
+/// Adds to `next` the positions of the tree `node` at `spot` that read the byte. Returns whether
+/// the tree can be left before the byte.
 ///
 /// # Errors
 ///
@@ -292,8 +293,9 @@ pub(crate) fn step(
     step_node(node, by, spot, next)
 }
 
-/// Steps like `step` on a tree that is not entered, where `own` are its positions in the set, at
-/// least one. Branches of alternations without a position are skipped.
+/// Steps like `step` on the tree `node`, which is not entered. `own` are the positions of the tree
+/// in the set; there must be at least one. Branches of alternations without a position in the set
+/// are skipped.
 ///
 /// # Errors
 ///
@@ -388,8 +390,8 @@ fn step_node(
     }
 }
 
-/// Steps like `step` on a repetition of at least `copies.count` copies of `body`, and of at most
-/// `most` if that is not `None`.
+/// Steps like `step` on a repetition of `body`. The repetition has at least `copies.count` copies,
+/// and at most `most` unless `most` is `None`.
 ///
 /// # Errors
 ///
@@ -425,7 +427,7 @@ fn step_repeat(
     step_up_to(body, rest, by, next)
 }
 
-/// Steps like `step` on a repetition of `copies` or more copies of `body`.
+/// Steps like `step` on a repetition of `body` at least `copies.count` times.
 ///
 /// # Errors
 ///
@@ -462,9 +464,9 @@ fn step_at_least(
     step_plus(body, by, copies.at(fronts.count, front), next)
 }
 
-/// Steps on the copies in `rest` after the first one that are like it, and returns their number.
-/// They have the same positions as the first copy, and are entered exactly if the first one is. The
-/// step on the first copy has been made, and `left` is whether the first copy can be left.
+/// Steps on the consecutive copies in `rest`, after the first copy, that have the same positions as
+/// the first copy and are entered exactly if the first copy is. Returns the number of these copies.
+/// The step on the first copy has been made, and `left` is `true` if the first copy can be left.
 ///
 /// # Errors
 ///
@@ -502,8 +504,9 @@ fn repeat_step(
     Ok(count)
 }
 
-/// Steps like `step` on all of `copies`, each of which is entered if the one before it can be left.
-/// Returns whether the last one can be left.
+/// Steps like `step` on all of `copies`. Each copy after the first is entered if the preceding copy
+/// can be left. Returns whether the last copy can be left, or `copies.entered` if there are no
+/// copies.
 ///
 /// # Errors
 ///
@@ -536,7 +539,7 @@ fn step_copies(
     Ok(left)
 }
 
-/// Steps like `step` on a repetition of at most these copies of `body`.
+/// Steps like `step` on a repetition of `body` at most `copies.count` times.
 ///
 /// # Errors
 ///
@@ -570,7 +573,8 @@ fn step_up_to(
     Ok(any | left)
 }
 
-/// Steps like `step` on `body`, repeated once or more, with the positions of one copy.
+/// Steps like `step` on `body`, repeated one or more times. All repetitions share the positions of
+/// one copy.
 ///
 /// # Errors
 ///

@@ -1,5 +1,5 @@
-//! Steps on one tree of several, whose positions are numbered consecutively. `logos_automaton`
-//! calls `step_tree` for the steps that it stores.
+//! Steps on one of several trees with consecutively numbered positions. `logos_automaton` calls
+//! `step_tree` for the steps that it stores.
 
 ghost use Rattle.std.specs.Prelude.{◌^◌, ◌<◌, ◌+◌, IsTrue, IfOk};
 ghost use Rattle.logos_positions.specs.Views.{IsRising, test_at, core_of, is_measured, IsStepOf};
@@ -12,13 +12,14 @@ use std::alloc::{AllocError, Global};
 /// The result of a step on one tree.
 #[derive(PartialEq, Eq, Drop)]
 pub struct TreeStep {
-    /// The positions of the tree that read the byte, ascending.
+    /// The positions of the tree that read the byte, in ascending order.
     pub positions: Vec<usize>,
     /// Whether the tree can be left before the byte.
     pub left: bool,
 }
 
-/// Returns the step on `node`, a tree that is not entered and whose positions begin at `base`.
+/// Returns the result of a step on the tree `node`, which is not entered. The positions of the tree
+/// begin at `base`.
 ///
 /// # Errors
 ///

@@ -1,5 +1,5 @@
-//! Steps on several trees, whose positions are numbered consecutively. `logos_automaton` calls
-//! `step_all` and `exits_all` for the key of each state.
+//! Steps on several trees with consecutively numbered positions. `logos_automaton` calls `step_all`
+//! and `exits_all` for the key of each state.
 
 ghost use Rattle.std.specs.Prelude.{◌≡◌, ◌∷◌, ◌++◌, ◌^◌, ◌<◌, ◌≤◌, ◌+◌, ◌-◌, ℕ, [], IsTrue, IsFalse, IfOk, OnOk, length, map, slice_index, if◌then◌else◌};
 ghost use Rattle.logos_positions.specs.Views.{IsRising, Has, HasBetween, width_of, test_at, core_of, AreMeasured, ReadBy, LeftBy, AreStarts};
@@ -11,7 +11,7 @@ use crate::positions::set::first_from;
 use crate::positions::step::{ReadByte, step};
 use std::alloc::{AllocError, Global};
 
-/// Several trees, whose positions are numbered consecutively.
+/// Several trees with consecutively numbered positions.
 #[derive(Clone, Copy)]
 pub struct Forest<'n> {
     /// The trees.
@@ -23,14 +23,15 @@ pub struct Forest<'n> {
 /// The result of a step on several trees.
 #[derive(Drop)]
 pub struct JointStep {
-    /// The positions that read the byte, ascending.
+    /// The positions that read the byte, in ascending order.
     pub positions: Vec<usize>,
-    /// The numbers of the trees that can be left before the byte, ascending.
+    /// The numbers of the trees that can be left before the byte, in ascending order.
     pub left: Vec<usize>,
 }
 
-/// Returns the number of the tree, from the tree `from` on, to which `position` belongs. `starts`
-/// are the first position of each tree and the position after the last tree.
+/// Returns the number of the tree to which `position` belongs. The search begins at the tree with
+/// the number `from`. `starts` are the first position of each tree and the position after the last
+/// tree.
 fn tree_at(starts: &[usize], from: usize, position: usize) -> usize
     requires some { from + 1 < length starts.now }
     requires low { slice_index starts.now from ≤ position }
@@ -53,8 +54,9 @@ fn tree_at(starts: &[usize], from: usize, position: usize) -> usize
     low
 }
 
-/// Returns the number of the first tree from `from` on that is entered or has a position in
-/// `marks`, or the number of trees if there is none. `entered` is whether all trees are entered.
+/// Returns the number of the first tree, from the tree with the number `from` on, that is entered
+/// or has a position in `marks`. Returns the number of trees if there is no such tree. `entered` is
+/// `true` if all trees are entered, and `false` if none is.
 pub fn next_tree(starts: &[usize], marks: &[usize], entered: bool, from: usize) -> usize
     requires rising { IsRising marks.now }
     requires within { from < length starts.now }
@@ -95,8 +97,8 @@ fn note(numbers: &mut Vec<usize>, number: usize, is_one: bool) -> Result<(), All
     Ok(())
 }
 
-/// Returns the step on all trees of `forest`. `entered` is whether all of them are entered;
-/// otherwise none is.
+/// Returns the result of a step on all trees of `forest`. `entered` is `true` if all trees are
+/// entered, and `false` if none is.
 ///
 /// # Errors
 ///
@@ -135,9 +137,9 @@ pub fn step_all(
     Ok(JointStep { positions, left })
 }
 
-/// Returns the numbers of the trees that can be left at the point `at`, ascending. `marks` are the
-/// positions that read the byte before. `entered` is whether all trees are entered; otherwise none
-/// is.
+/// Returns the numbers of the trees that can be left at the point `at`, in ascending order. `marks`
+/// are the positions that read the byte before the point. `entered` is `true` if all trees are
+/// entered, and `false` if none is.
 ///
 /// # Errors
 ///

@@ -1,4 +1,4 @@
-//! Unites classes of bytes. `prepare` calls `joined_class` where it makes the choice of two trees.
+//! Unites classes of bytes. `prepare` calls `joined_class` for the alternation of two trees.
 
 ghost use Rattle.std.specs.Prelude.{◌≡◌, ◌+◌, ◌<◌, ◌≤◌, ◌||◌, ℕ, IsTrue, IfOk, IfSome, OnOk, length, max, min, slice_get};
 ghost use Rattle.logos_positions.specs.Views.{is_in, pairs, byte_in, AreNear, IsEither, is_within, core_of};
@@ -7,7 +7,7 @@ use crate::node::Node;
 use logos_hir::hir::Range;
 use std::alloc::{AllocError, Global};
 
-/// Returns whether the ranges overlap or are adjacent: no byte is between them.
+/// Returns whether two ranges overlap or are adjacent.
 fn are_near(one: Range, other: Range) -> bool
     ensures { IsTrue result → AreNear one other }
 {
@@ -26,7 +26,7 @@ fn hull(one: Range, other: Range) -> Range
 }
 
 /// Returns the index of the first of `ranges` that overlaps `range` or is adjacent to it, or the
-/// number of ranges if there is none.
+/// number of ranges if there is no such range.
 fn near_range(ranges: &[Range], range: Range) -> usize
     ensures within { result ≤ length ranges.now }
     ensures near { IfSome (slice_get ranges.now result) (λ found. AreNear found range) }
@@ -41,8 +41,8 @@ fn near_range(ranges: &[Range], range: Range) -> usize
     i
 }
 
-/// Adds `range` to a class: extends the first of `ranges` that overlaps it or is adjacent to it, or
-/// appends it if there is none.
+/// Adds `range` to a class: extends the first of `ranges` that overlaps `range` or is adjacent to
+/// it. Appends `range` if there is no such range.
 ///
 /// # Errors
 ///
@@ -76,7 +76,7 @@ fn union(alloc: Global, one: &[Range], other: &[Range]) -> Result<Vec<Range>, Al
     Ok(ranges)
 }
 
-/// Returns the ranges of a class of bytes, or `None` for another tree.
+/// Returns the ranges of a class of bytes, or `None` for any other tree.
 fn ranges_of(node: &Node) -> Option<&[Range]>
     ensures { IfSome result (λ ranges. core_of node.now ≡ byte_in (is_in (pairs ranges.now))) }
 {

@@ -1,4 +1,5 @@
-//! Blocks of states. `merge` begins with a block for each mark, and splits these blocks.
+//! Blocks of states. `merge` begins with a block for each set of states with equal marks, and then
+//! splits these blocks.
 
 ghost use Rattle.std.specs.Prelude.{None, ◌≡◌, ◌≢◌, ℕ, ◌+◌, ◌<◌, ◌≤◌, IfOk, length, vec_len, slice_index, slice_index_or};
 ghost use Rattle.logos_reduce.specs.Merge.{AreLeaders, IsSound, split_at};
@@ -9,11 +10,11 @@ use crate::table::{StateMarks, Table};
 use indexmap::IndexSet;
 use std::alloc::{AllocError, Global};
 
-/// A split, which made a block by separating it from another one, by a symbol or by the marks of
+/// A split: the separation of a new block from another block, by a symbol or by the marks of
 /// states.
 #[derive(Clone, Copy, Drop)]
 pub struct Split {
-    /// The number of the other block, which is lower than that of the new one.
+    /// The number of the other block, which is lower than the number of the new block.
     pub parent: usize,
     /// The symbol on which states of the two blocks lead to different blocks, or `None` if their
     /// marks differ.
@@ -31,7 +32,7 @@ pub struct Blocks {
     ghost within: { (s : ℕ) → s < vec_len of → slice_index of.items s < vec_len splits },
 }
 
-/// Returns `mark` as a key: two marks have the same key only if they are equal.
+/// Returns a key of `mark`. Only equal marks have equal keys.
 fn key_of(mark: StateMarks) -> [usize; 4]
     ensures { result ≡ inside.key_of mark }
 {
@@ -40,7 +41,7 @@ fn key_of(mark: StateMarks) -> [usize; 4]
     [accepts, accept, is_early, early]
 }
 
-/// Returns 1 and the number of `leaf`, or two zeros if it is `None`.
+/// Returns `(1, leaf)`, or `(0, 0)` if `leaf` is `None`.
 pub fn tagged(leaf: Option<usize>) -> (usize, usize)
     ensures { result ≡ inside.tagged leaf }
 {
@@ -50,8 +51,8 @@ pub fn tagged(leaf: Option<usize>) -> (usize, usize)
     }
 }
 
-/// Returns `count` splits, one for each block, which state that the block was separated from block
-/// 0 by the marks of states.
+/// Returns `count` splits, one for each block. Each split separates its block from block 0 by the
+/// marks of states.
 fn parted_by_marks(alloc: Global, count: usize) -> Result<Vec<Split>, AllocError>
     ensures len { IfOk result (λ v. vec_len v ≡ count) }
     ensures splits { IfOk result (λ v. (j : ℕ) →
@@ -65,7 +66,8 @@ fn parted_by_marks(alloc: Global, count: usize) -> Result<Vec<Split>, AllocError
     Ok(splits)
 }
 
-/// Returns the blocks of a table's states with equal marks.
+/// Groups the states of a table into blocks. Two states are in the same block if and only if their
+/// marks are equal.
 ///
 /// # Errors
 ///
@@ -84,8 +86,8 @@ pub fn by_marks(alloc: Global, table: &Table) -> Result<Blocks, AllocError>
     Ok(Blocks { of, splits })
 }
 
-/// Returns for each of the `count` blocks one of its states, or 0 if it has none. `of` is the block
-/// of each state.
+/// Returns, for each of the `count` blocks, one of its states, or 0 if the block has no states.
+/// `of` is the block of each state.
 ///
 /// # Errors
 ///

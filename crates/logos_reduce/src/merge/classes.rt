@@ -1,5 +1,5 @@
-//! Groups states with equal marks and equal rows into classes, so that classes are split instead of
-//! states. `merge` calls `classes_of` first, and `class_table` if many states are alike.
+//! Groups states with equal marks and equal rows into classes, so that classes are merged instead
+//! of states. `merge` calls `classes_of`, and then `class_table` if there are few classes.
 
 ghost use Rattle.std.specs.Prelude.{◌≡◌, ℕ, ◌+◌, ◌<◌, ◌≤◌, ◌^◌, Some, IfOk, length, vec_len, slice_index, option_map};
 ghost use Rattle.logos_reduce.specs.Views.{target_by, target_in, target_of, target_block, rows_of, size, mark, mark_in, AreClasses, IsClassTable};
@@ -12,7 +12,7 @@ use crate::table::{StateMarks, Table};
 use indexmap::IndexSet;
 use std::alloc::{AllocError, Global};
 
-/// Classes of states: the states of a class have equal marks and equal rows.
+/// Classes of states. The states of a class have equal marks and equal rows.
 #[derive(Drop)]
 pub struct Classes {
     /// For each state, its class.
@@ -23,8 +23,7 @@ pub struct Classes {
     ghost few: { count ≤ vec_len of },
 }
 
-/// Returns the index of the row of the state `s` among the distinct rows, and the state's mark, as
-/// a key.
+/// Returns a key for the state `s`: the index of its row among the distinct rows, and its marks.
 fn class_key(table: &Table, s: usize) -> [usize; 5]
     requires { s < size table.now }
     ensures { result ≡ inside.class_key table.now s }
@@ -73,8 +72,8 @@ fn class_row(row: &Row, of: &Vec<usize>) -> Row
     made
 }
 
-/// Returns the entry for the class of `target`: one more than its number, or 0 if there is no
-/// target.
+/// Returns the row entry for the class of `target`: one more than the number of the class, or 0 if
+/// `target` is `None`. `of` is the class of each state.
 fn class_entry(target: Option<usize>, of: &Vec<usize>) -> u32
     requires inside { (t : ℕ) → target ≡ Some t → t < vec_len of.now }
     requires few { (s : ℕ) → s < vec_len of.now → slice_index of.now.items s + 1 < 2 ^ 32 }
@@ -86,8 +85,8 @@ fn class_entry(target: Option<usize>, of: &Vec<usize>) -> u32
     }
 }
 
-/// Returns the rows of the classes. Each class leads to the classes of the targets of its leader,
-/// one of its states.
+/// Returns the rows of the classes. On each symbol, a class leads to the class of its leader's
+/// target. `of` is the class of each state, and `leaders` contains a state of each class.
 fn class_rows(
     alloc: Global,
     table: &Table,
@@ -110,7 +109,7 @@ fn class_rows(
     Ok(rows)
 }
 
-/// Returns the marks of the classes: for each class the mark of its leader.
+/// Returns the marks of the classes. Each class has the marks of its leader.
 fn class_marks(
     alloc: Global,
     table: &Table,

@@ -1,5 +1,5 @@
-//! Chooses the part of a block that becomes the new block, and the next blocks to process. `refine`
-//! and `twins` call the methods of `Hints` for each block. No proof about blocks depends on these
+//! Chooses the next blocks to process, and the symbols for which they are processed. `refine` and
+//! `twins` call the methods of `Hints` for each block. No proof about blocks depends on these
 //! choices.
 
 ghost use Rattle.std.specs.Prelude.{◌≡◌, ℕ, ◌+◌, ◌<◌, ◌≤◌, OnSome, IfOk, vec_len, slice_index};
@@ -19,7 +19,7 @@ pub struct Hints {
     first: Vec<usize>,
     /// The blocks that are still to be processed.
     todo: Vec<usize>,
-    /// The block that is being processed, or `None` before the first one.
+    /// The block that is being processed, or `None` before the first block.
     looked: Option<usize>,
     ghost counts_len: { vec_len counts ≡ vec_len sizes },
     ghost pending_len: { vec_len pending ≡ vec_len sizes },
@@ -28,8 +28,8 @@ pub struct Hints {
 }
 
 impl Hints {
-    /// Returns hints in which each of the first `count` blocks is still to be processed. `room` is
-    /// the greatest number of blocks that there can be.
+    /// Returns hints in which each of the first `count` blocks is still to be processed. `blocks`
+    /// is the block of each state, and `room` is the maximum number of blocks.
     ///
     /// # Errors
     ///
@@ -67,7 +67,7 @@ impl Hints {
         })
     }
 
-    /// Counts one more hit of `block`.
+    /// Counts one more state of `block` that is hit.
     pub fn count_hit(&mut self, block: usize)
         requires { block < vec_len self.old.sizes }
         ensures todo { vec_len self.new.todo ≡ vec_len self.old.todo }
@@ -83,7 +83,7 @@ impl Hints {
         0 < self.counts[block] && self.counts[block] < self.sizes[block]
     }
 
-    /// Returns whether `block` is still to be processed. It is not if there is no such block.
+    /// Returns whether `block` is still to be processed, or `false` if there is no such block.
     pub fn is_pending(&self, block: usize) -> bool {
         block < self.pending.len() && self.pending[block]
     }
@@ -138,9 +138,8 @@ impl Hints {
         }
     }
 
-    /// Returns the first symbol for which `block` is still to be processed, or `None` if it is not
-    /// to be processed. `symbol` is the symbol for which the block that is being processed
-    /// currently splits others.
+    /// Returns the first symbol for which `block` is still to be processed, or `None` if no symbol
+    /// is left. `symbol` is the symbol for which the current block is being processed.
     fn symbol_left(&self, block: usize, symbol: usize) -> Option<usize>
         requires { block < vec_len self.now.sizes }
     {
@@ -153,10 +152,10 @@ impl Hints {
         None
     }
 
-    /// Records that the hit states of `block` are now in the block `twin`, and the parts that are
-    /// to be processed: the smaller part for all symbols, and the larger part for the symbols that
-    /// are left for the block. `symbol` is the symbol for which the block that is being processed
-    /// currently splits others.
+    /// Records that the hit states of `block` are now in the block `twin`, and that the two parts
+    /// are to be processed: the smaller part for all symbols, and the larger part for the symbols
+    /// that were left for `block`. `symbol` is the symbol for which the current block is being
+    /// processed.
     ///
     /// # Errors
     ///
@@ -175,7 +174,7 @@ impl Hints {
         self.note(smaller, 0)
     }
 
-    /// Sets the number of hits of `block` to 0.
+    /// Sets the number of hit states of `block` to 0.
     pub fn forget(&mut self, block: usize)
         requires { block < vec_len self.old.sizes }
         ensures todo { vec_len self.new.todo ≡ vec_len self.old.todo }
@@ -194,7 +193,7 @@ impl Hints {
         Some(block)
     }
 
-    /// Records that `block` is being processed, and no longer to be processed.
+    /// Records that `block` is being processed and is no longer pending.
     fn begin(&mut self, block: usize)
         ensures todo { vec_len self.new.todo ≡ vec_len self.old.todo }
         ensures sizes { vec_len self.new.sizes ≡ vec_len self.old.sizes }

@@ -1,5 +1,5 @@
 //! Splits blocks by the blocks to which their states lead. `merge` calls `refine` with the blocks
-//! of the marks, and again after each split that it makes itself.
+//! of states with equal marks, and again after each block that it splits itself.
 
 ghost use Rattle.std.specs.Prelude.{true, ◌≡◌, ◌≢◌, ℕ, ◌+◌, ◌<◌, ◌≤◌, ◌↔◌, Some, OnSome, OnOk, IfOk, IsTrue, length, vec_len, slice_index, option_map};
 ghost use Rattle.logos_reduce.specs.Views.{has, has_in, ArePredecessors, AreFiled, AreSources, AreHits, target_by, target_block, IsSound, IsFiner, size, to};
@@ -23,7 +23,7 @@ pub fn block_of(target: Option<usize>, blocks: &Vec<usize>) -> Option<usize>
     Some(blocks[target?])
 }
 
-/// Appends the numbers of the list at the index `t` to `sources`.
+/// Appends the numbers of the list at the index `t` of `lists` to `sources`.
 fn add_all(sources: &mut Vec<usize>, lists: &Vec<Vec<usize>>, t: usize) -> Result<(), AllocError>
     requires { t < vec_len lists.now }
     ensures stays { (s : ℕ) → has sources.old.items s ≡ true → has sources.new.items s ≡ true }
@@ -34,8 +34,8 @@ fn add_all(sources: &mut Vec<usize>, lists: &Vec<Vec<usize>>, t: usize) -> Resul
     Ok(())
 }
 
-/// Returns the states with an edge into the block `b`, possibly with other states, and possibly
-/// with duplicates.
+/// Returns at least all states with an edge into the block `b`, possibly with duplicates. `from`
+/// contains the predecessors of each state.
 fn all_sources(
     alloc: Global,
     parts: &Refinement,
@@ -57,7 +57,7 @@ fn all_sources(
     Ok(sources)
 }
 
-/// Returns the numbers of `list` without those that equal the number directly before them.
+/// Returns `list` without consecutive repeated numbers.
 fn without_repeats(alloc: Global, list: &Vec<usize>) -> Result<Vec<usize>, AllocError>
     ensures { IfOk result (λ v. (s : ℕ) → has list.now.items s ≡ true → has v.items s ≡ true) }
 {
@@ -68,8 +68,8 @@ fn without_repeats(alloc: Global, list: &Vec<usize>) -> Result<Vec<usize>, Alloc
     Ok(once)
 }
 
-/// Returns the states with an edge into the block `b`, possibly with other states, ascending and
-/// without duplicates.
+/// Returns at least all states with an edge into the block `b`, in ascending order and without
+/// duplicates. `from` contains the predecessors of each state.
 fn sources_of(
     alloc: Global,
     parts: &Refinement,
@@ -88,8 +88,8 @@ fn sources_of(
     Ok(once)
 }
 
-/// Returns whether the state `s` leads into the block `b` on the symbol `k`. It does not if there
-/// is no such state.
+/// Returns whether the state `s` leads into the block `b` on the symbol `k`, or `false` if there is
+/// no such state.
 fn leads_into(table: &Table, blocks: &Vec<usize>, s: usize, b: usize, k: usize) -> bool
     requires len { vec_len blocks.now ≡ size table.now }
     requires k_in { k < WIDTH }
@@ -99,8 +99,8 @@ fn leads_into(table: &Table, blocks: &Vec<usize>, s: usize, b: usize, k: usize) 
     s < table.len() && block_of(table.target(s, k), blocks) == Some(b)
 }
 
-/// A block by which other blocks are split, with the states that have an edge into it, possibly
-/// with other states, and the symbols of these edges.
+/// A block by which other blocks are split, with its sources and the symbols of the edges into it.
+/// The sources include all states with an edge into the block.
 #[derive(Drop)]
 struct Splitter {
     block: usize,
@@ -110,7 +110,7 @@ struct Splitter {
     used: Symbols,
 }
 
-/// Returns the sources of `by` that lead into its block on the symbol `k`.
+/// Returns the sources of `by` that lead into the block of `by` on the symbol `k`.
 fn hits_of(
     alloc: Global,
     table: &Table,
@@ -133,8 +133,8 @@ fn hits_of(
     Ok(hits)
 }
 
-/// Splits the blocks by the states that lead into the block of `by` on the symbol `k`. Splits
-/// nothing if that symbol is not used.
+/// Splits each block by whether its states lead into the block of `by` on the symbol `k`. Splits
+/// nothing if `by` does not use this symbol.
 fn split_by_symbol(
     alloc: Global,
     table: &Table,
@@ -171,8 +171,8 @@ fn split_by_symbol(
     Ok(split)
 }
 
-/// Returns the symbols on which a state leads into the block `b`. `symbols` has these symbols for
-/// each state.
+/// Returns the symbols on which some state leads into the block `b`. `symbols` contains, for each
+/// state, the symbols on which some state leads to it.
 fn symbols_into(parts: &Refinement, symbols: &Vec<Symbols>, b: usize) -> Symbols
     requires { b < vec_len parts.now.cuts.splits }
 {
@@ -185,8 +185,8 @@ fn symbols_into(parts: &Refinement, symbols: &Vec<Symbols>, b: usize) -> Symbols
     used
 }
 
-/// Splits the blocks by the states that lead into the block of `by`, symbol by symbol, until that
-/// block itself is split. Its parts are then still to be processed.
+/// Splits each block by whether its states lead into the block of `by`, symbol by symbol. Stops
+/// early if the block of `by` is split itself, because its parts are then still to be processed.
 fn split_by_block(
     alloc: Global,
     table: &Table,
@@ -245,7 +245,8 @@ impl Refinement {
     }
 }
 
-/// Returns for each block the list of its states, in a vector of `room` lists.
+/// Returns a vector of `room` lists that contains, for each block, the list of its states. `blocks`
+/// is the block of each state.
 fn filed_states(
     alloc: Global,
     blocks: &Vec<usize>,
@@ -263,8 +264,8 @@ fn filed_states(
     Ok(lists)
 }
 
-/// Returns the refinement that begins with `blocks`, each of which is still to be processed. `room`
-/// is the greatest number of blocks that there can be.
+/// Returns a refinement of `blocks` in which each block is still to be processed. `room` is the
+/// maximum number of blocks.
 fn start(alloc: Global, blocks: Blocks, room: usize) -> Result<Refinement, AllocError>
     requires some { 0 < vec_len blocks.splits }
     requires room { vec_len blocks.splits ≤ room }
@@ -294,8 +295,8 @@ struct Edges {
     symbols: Vec<Symbols>,
 }
 
-/// Splits the blocks by the states that lead into the block `b`. Splits nothing if there is no such
-/// block.
+/// Splits each block by whether its states lead into the block `b`. Splits nothing if there is no
+/// such block.
 fn look_at(
     alloc: Global,
     table: &Table,

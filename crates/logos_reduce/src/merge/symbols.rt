@@ -1,5 +1,5 @@
-//! Sets of symbols for which a block is processed. `refine` makes a set for each state. No proof
-//! about blocks depends on these sets.
+//! Sets of symbols. `refine` stores, for each state, the set of symbols on which some state leads
+//! to it. No proof about blocks depends on these sets.
 
 ghost use Rattle.std.specs.Prelude.{◌<◌, ◌≤◌};
 
@@ -26,8 +26,8 @@ impl Symbols {
         (self.words[k / 64] >> (k % 64)) & 1 == 1
     }
 
-    /// Returns a symbol after `k`, or a number past the last symbol, such that no symbol of the set
-    /// is between the two.
+    /// Returns a number greater than `k` such that no symbol of the set lies strictly between the
+    /// two. The number can exceed the last symbol.
     pub fn after(&self, k: usize) -> usize
         requires { k < WIDTH }
         ensures { k < result }
@@ -47,7 +47,7 @@ impl Symbols {
         self.words[k / 64] |= 1 << (k % 64);
     }
 
-    /// Adds the symbols from `from` to `to`, without `to`, to the set.
+    /// Adds the symbols in the range `from..to` to the set.
     fn add_run(&mut self, from: usize, to: usize)
         requires { to ≤ WIDTH }
     {
@@ -64,8 +64,8 @@ impl Symbols {
     }
 }
 
-/// Adds the symbols from `from` to `to`, without `to`, to the set of `target`, unless that is
-/// `None` or has no set.
+/// Adds the symbols in the range `from..to` to the set of the state `target`. Does nothing if
+/// `target` is `None` or has no set.
 fn note_run(symbols: &mut Vec<Symbols>, target: Option<usize>, from: usize, to: usize)
     requires { to ≤ WIDTH }
 {
@@ -76,7 +76,7 @@ fn note_run(symbols: &mut Vec<Symbols>, target: Option<usize>, from: usize, to: 
     }
 }
 
-/// Adds each symbol of a row to the set of the symbol's target, if there is one.
+/// Adds each symbol on which `row` has a target to the set of this target.
 fn note_symbols(symbols: &mut Vec<Symbols>, row: &Row) {
     let mut k = 0;
     while k < WIDTH {
@@ -86,7 +86,7 @@ fn note_symbols(symbols: &mut Vec<Symbols>, row: &Row) {
     }
 }
 
-/// Returns for each state the symbols on which a state leads to it.
+/// Returns, for each state, the symbols on which some state leads to it.
 ///
 /// # Errors
 ///

@@ -1,6 +1,6 @@
-//! Cuts blocks into the states that are hit and those that are not. `refine` calls `split_on` for
-//! each block and symbol that it processes. A state is hit if it leads into that block on that
-//! symbol.
+//! Cuts blocks into the states that are hit and the states that are not hit. A state is hit if it
+//! leads into the block that is being processed, on the symbol for which the block is being
+//! processed. `refine` calls `split_on` for each such block and symbol.
 
 ghost use Rattle.std.specs.Prelude.{true, ◌≡◌, ◌≢◌, ℕ, ◌+◌, ◌-◌, ◌*◌, ◌<◌, ◌≤◌, OnOk, IfOk, length, vec_len, slice_index};
 ghost use Rattle.logos_reduce.specs.Imports.{has_in, AreFiled, landing, HaveMoved};
@@ -16,22 +16,23 @@ use std::alloc::{AllocError, Global};
 pub struct Filing {
     /// For each state, its block.
     pub blocks: Vec<usize>,
-    /// For each block, a list that contains its states, and can contain states that have left the
+    /// For each block, a list of its states. The list can also contain states that have left the
     /// block.
     pub lists: Vec<Vec<usize>>,
 }
 
-/// The cuts that have been made, each of which divided a block in two.
+/// The cuts that have been made. Each cut divided a block in two.
 #[derive(Drop)]
 pub struct Cuts {
-    /// For each block, the block to which its hit states last moved, or 0 if none moved.
+    /// For each block, the block to which its hit states last moved, or 0 if no state has moved.
     pub twins: Vec<usize>,
     /// For each block, the split that separated it from a block with a lower number.
     pub splits: Vec<Split>,
     pub hints: Hints,
 }
 
-/// Counts the hits of each block, and returns the block of each of `hits`, the states that are hit.
+/// Counts the hit states of each block. Returns the block of each state in `hits`, the list of all
+/// hit states.
 fn homes_of(
     alloc: Global,
     hints: &mut Hints,
@@ -57,8 +58,9 @@ fn homes_of(
     Ok(homes)
 }
 
-/// Makes a new block for `block`, if some but not all of its states are hit on `symbol`, and its
-/// new block is not made yet. The new blocks of this cut have numbers from `fresh` on.
+/// Adds a new block for the hit states of `block` if some but not all of its states are hit on
+/// `symbol`, and if this cut has not added the new block yet. The new blocks of this cut have
+/// numbers from `fresh` on.
 fn add_twin(cuts: &mut Cuts, fresh: usize, block: usize, symbol: usize) -> Result<(), AllocError>
     requires room { vec_len cuts.old.twins ≡ vec_len cuts.old.hints.sizes }
     requires fits { vec_len cuts.old.splits ≤ vec_len cuts.old.twins }
@@ -88,7 +90,7 @@ fn add_twin(cuts: &mut Cuts, fresh: usize, block: usize, symbol: usize) -> Resul
     Ok(())
 }
 
-/// Makes a new block for each of `homes` of which some but not all states are hit on `symbol`.
+/// Adds a new block for each block in `homes` of which some but not all states are hit on `symbol`.
 fn add_twins(cuts: &mut Cuts, homes: &Vec<usize>, symbol: usize) -> Result<(), AllocError>
     requires room { vec_len cuts.old.twins ≡ vec_len cuts.old.hints.sizes }
     requires fits { vec_len cuts.old.splits ≤ vec_len cuts.old.twins }
@@ -113,7 +115,7 @@ fn add_twins(cuts: &mut Cuts, homes: &Vec<usize>, symbol: usize) -> Result<(), A
     Ok(())
 }
 
-/// Resets the numbers of hits of the blocks `homes`.
+/// Sets the number of hit states of each block in `homes` to 0.
 fn forget_all(hints: &mut Hints, homes: &Vec<usize>)
     requires { (i : ℕ) → i < vec_len homes.now →
         slice_index homes.now.items i < vec_len hints.old.sizes }
@@ -144,8 +146,8 @@ fn move_to(filing: &mut Filing, s: usize, block: usize) -> Result<(), AllocError
     Ok(())
 }
 
-/// Moves the hit state `s` to the new block of its block, if there is one. The new blocks have
-/// numbers from `fresh` on.
+/// Moves the hit state `s` to the new block that was split off its block, if there is one. The new
+/// blocks have numbers from `fresh` on.
 fn move_hit(
     filing: &mut Filing,
     twins: &Vec<usize>,
@@ -177,8 +179,8 @@ fn move_hit(
     move_to(filing, s, twin)
 }
 
-/// Moves each of `hits`, the states that are hit, to the new block of its block, if there is one.
-/// The new blocks have numbers from `fresh` on.
+/// Moves each state in `hits`, the list of all hit states, to the new block that was split off its
+/// block, if there is one. The new blocks have numbers from `fresh` on.
 fn move_hits(
     filing: &mut Filing,
     twins: &Vec<usize>,
@@ -205,7 +207,7 @@ fn move_hits(
     Ok(())
 }
 
-/// Blocks while they are cut: their states, and the splits that made them.
+/// A refinement in progress: the states of each block, and the cuts that made the blocks.
 #[derive(Drop)]
 pub struct Refinement {
     pub filing: Filing,
@@ -220,8 +222,8 @@ pub struct Refinement {
         filing.lists.items },
 }
 
-/// Cuts each block into its states in `hits`, which lead into one block on `symbol`, and its other
-/// states.
+/// Cuts each block into its states in `hits` and its other states. `hits` contains states that lead
+/// into one block on `symbol`.
 ///
 /// # Errors
 ///

@@ -1,4 +1,4 @@
-//! Reads a whole bracket. The pattern parser calls it at each `[`.
+//! Reads a whole bracket. The pattern parser calls `read_bracket` at each `[`.
 
 ghost use Rattle.std.specs.Prelude.{◌≡◌, ◌<◌, ◌≤◌};
 ghost use Rattle.logos_syntax.specs.Views.{pattern_nesting, IsStopOf, ReadsInside, ReadsBracket};
@@ -9,8 +9,8 @@ use logos_pattern_tokens::error::{Fault, Kind, Stop};
 use logos_pattern_tokens::token::Flags;
 use std::alloc::Global;
 
-/// Returns the number of characters from the unclosed `{` of the first escape with one to the end
-/// of the text, or the length of the text if there is none.
+/// Returns the number of characters from the first unclosed `{` of an escape to the end of the
+/// text, or the length of the text if there is no such `{`.
 fn left_at_brace(text: &[char]) -> usize {
     let mut rest = after_braces(text);
     while let [_, after @ ..] = rest {
@@ -22,7 +22,7 @@ fn left_at_brace(text: &[char]) -> usize {
     text.len()
 }
 
-/// Returns the text from its last `}` on, or all of it if it has no `}`.
+/// Returns the text from its last `}` on, or the whole text if it has no `}`.
 fn after_braces(text: &[char]) -> &[char] {
     match text.iter().rposition(|c| *c == '}') {
         Some(at) if at < text.len() => &text[at..],
@@ -30,8 +30,8 @@ fn after_braces(text: &[char]) -> &[char] {
     }
 }
 
-/// Returns the stop for the fault `fault` of the token at the front of `rest`, the rest of the
-/// text.
+/// Returns the stop for the fault `fault` of the token at the front of `rest`, where `rest` is the
+/// text that remains to be read.
 pub(crate) fn stop_for(flags: Flags, fault: Fault, rest: &[char]) -> Stop
     ensures { IsStopOf fault result }
 {
@@ -48,8 +48,8 @@ pub(crate) fn stop_for(flags: Flags, fault: Fault, rest: &[char]) -> Stop
     }
 }
 
-/// Returns the kind of a fault with these flags. If the pattern matches bytes, each fault of a
-/// property's name is `NotInBytes`.
+/// Returns `NotInBytes` for a fault of a property's name if the pattern matches bytes, and `kind`
+/// otherwise.
 fn property_kind(flags: Flags, kind: Kind) -> Kind {
     match kind {
         Kind::UnknownProperty | Kind::PropertyForm if !flags.unicode => Kind::NotInBytes,
@@ -57,9 +57,9 @@ fn property_kind(flags: Flags, kind: Kind) -> Kind {
     }
 }
 
-/// Reads the text after the opening of a bracket, up to its end. Returns the set of the bracket,
-/// the depth of its innermost point, and the rest of the text. `base` is the number of groups that
-/// are open around the bracket.
+/// Reads the text after the opening of a bracket, up to the end of the bracket. Returns the set of
+/// the bracket, the depth of its innermost point, and the rest of the text. `base` is the number of
+/// groups that are open around the bracket.
 ///
 /// # Errors
 ///
@@ -96,8 +96,9 @@ fn read_inside(
     })
 }
 
-/// Reads a bracket from the text after its `[`. Returns its set, the depth of its innermost point,
-/// and the rest of the text. `base` is the number of groups that are open around the bracket.
+/// Reads a bracket from the text after its `[`. Returns the set of the bracket, the depth of its
+/// innermost point, and the rest of the text. `base` is the number of groups that are open around
+/// the bracket.
 ///
 /// # Errors
 ///

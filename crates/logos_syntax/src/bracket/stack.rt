@@ -1,4 +1,4 @@
-//! The stack of open brackets, which computes the set of a bracket while the bracket is read. The
+//! The stack of open brackets. It computes the set of each bracket while the bracket is read. The
 //! reader of brackets adds each token to the stack.
 
 ghost use Rattle.std.specs.Prelude.{◌≡◌, ◌+◌, ◌≤◌, ◌<◌, [], IfOk, OnOk, MatchBool, vec_len, length};
@@ -26,15 +26,15 @@ pub(crate) struct BracketOpening {
     pub left: usize,
 }
 
-/// The inside of an open bracket, as far as it has been read.
+/// The part of an open bracket that has been read so far.
 #[derive(Drop)]
 pub(crate) struct BracketFrame {
     negated: bool,
-    /// The operands before the last operator.
+    /// The operands before the last operator that has been read.
     before: OperandRuns,
     /// The operator after the operands in `before`, or `None` if no operator has been read.
     operator: Option<SetOperator>,
-    /// The ranges of the operand that is being read.
+    /// The ranges of the current operand.
     ranges: Vec<Range>,
     /// The depth of the bracket's innermost point in the whole pattern.
     inner: usize,
@@ -43,11 +43,11 @@ pub(crate) struct BracketFrame {
     ghost shallow: { inner ≤ pattern_nesting },
 }
 
-/// The brackets that are open, the innermost on top.
+/// The open brackets, with the innermost bracket on top.
 #[derive(Drop)]
 pub(crate) struct Frames {
     top: BracketFrame,
-    /// The brackets around the innermost one, the outermost first.
+    /// The brackets around the innermost bracket, with the outermost bracket first.
     below: Vec<BracketFrame>,
     ghost shallow: { vec_len below ≤ pattern_nesting },
 }
@@ -63,7 +63,7 @@ impl BracketFrame {
     ghost use Rattle.logos_syntax.specs.Views.{pattern_nesting, set_of, fresh_frame, value, whole, frame_view};
 
     /// Returns a bracket of which only the opening `opening` has been read. `level` is the number
-    /// of groups and brackets around its inside.
+    /// of groups and brackets around the inside of the bracket.
     fn new(alloc: Global, opening: BracketOpening, level: usize) -> Result<BracketFrame, AllocError>
         requires { level ≤ pattern_nesting }
         ensures { IfOk result (λ f. frame_view f ≡ fresh_frame opening.negated opening.lead level) }
@@ -78,7 +78,8 @@ impl BracketFrame {
         })
     }
 
-    /// Returns the set of the operands that have been read, without the negation of the bracket.
+    /// Returns the set of the operands that have been read so far. The negation of the bracket is
+    /// ignored.
     fn value(&self, alloc: Global) -> Result<RangeSet, AllocError>
         ensures { IfOk result (λ set. set_of set ≡ value (frame_view self.now)) }
     {
@@ -89,7 +90,8 @@ impl BracketFrame {
         }
     }
 
-    /// Returns the set of the bracket, with its negation, as if the bracket ended here.
+    /// Returns the set of the bracket as if the bracket ended at this point, including its
+    /// negation.
     fn whole(&self, alloc: Global, flags: Flags) -> Result<RangeSet, AllocError>
         ensures { IfOk result (λ set. set_of set ≡ whole flags (frame_view self.now)) }
     {
@@ -102,7 +104,7 @@ impl Frames {
     ghost use Rattle.logos_syntax.specs.Views.{pattern_nesting, set_of, fresh_frame, whole, frame_view, frames_view, BracketSteps};
 
     /// Returns a stack whose only bracket has the opening `opening`. `level` is the number of
-    /// groups and brackets around its inside.
+    /// groups and brackets around the inside of the bracket.
     pub(crate) fn new(
         alloc: Global,
         opening: BracketOpening,
@@ -136,7 +138,7 @@ impl Frames {
         self.top.left
     }
 
-    /// Returns the set and the depth of the outermost bracket, which must be the only one open.
+    /// Returns the set and the depth of the outermost bracket. No other bracket may be open.
     pub(crate) fn finish(&self, alloc: Global, flags: Flags) -> Result<BracketValue, AllocError>
         ensures { IfOk result (λ found. (set_of found.set ≡
             whole flags (frames_view self.now).top) ×
@@ -150,7 +152,8 @@ impl Frames {
     }
 
     /// Adds an element to the innermost bracket. `left` is the number of characters from the
-    /// element to the end of the text.
+    /// element to the end of the text, and `base` the number of groups around the outermost
+    /// bracket.
     ///
     /// # Errors
     ///
@@ -176,7 +179,7 @@ impl Frames {
         Ok(())
     }
 
-    /// Opens a bracket inside the innermost one. `base` is the number of groups around the
+    /// Opens a bracket inside the innermost bracket. `base` is the number of groups around the
     /// outermost bracket.
     ///
     /// # Errors
@@ -204,8 +207,8 @@ impl Frames {
         Ok(())
     }
 
-    /// Ends the operand of the innermost bracket with the operator `op`, and begins the next
-    /// operand.
+    /// Ends the operand of the innermost bracket at the operator `op`, and begins the next operand.
+    /// `base` is the number of groups around the outermost bracket.
     ///
     /// # Errors
     ///
@@ -229,7 +232,8 @@ impl Frames {
     }
 
     /// Closes the innermost bracket, and adds its set to the bracket around it. `left` is the
-    /// number of characters from the `]` to the end of the text.
+    /// number of characters from the `]` to the end of the text, and `base` the number of groups
+    /// around the outermost bracket.
     ///
     /// # Errors
     ///
@@ -258,8 +262,8 @@ impl Frames {
     ///
     /// # Errors
     ///
-    /// Returns the fault of the token after the tokens before it, `LimitPatternNesting` if it is
-    /// nested too deeply, or `Memory` if memory runs out.
+    /// Returns the fault of the token if it is not allowed after the preceding tokens,
+    /// `LimitPatternNesting` if it is nested too deeply, or `Memory` if memory runs out.
     pub(crate) fn step(
         &mut self,
         alloc: Global,

@@ -1,5 +1,5 @@
-//! Turns the elements of a bracket into the sets that they denote. The stack of brackets calls it
-//! for each element.
+//! Turns the elements of a bracket into the sets that they denote. The stack of brackets calls
+//! `push_item` for each element.
 
 ghost use Rattle.std.specs.Prelude.{◌≡◌, ◌==◌, ◌∷◌, [], IfOk, IfSome, OnOk};
 ghost use Rattle.logos_syntax.specs.Imports.{pairs, only_chars, members, union, in_range, code_of, set_of, last_of, case_closure, set_or_complement, item_test, is_negated, item_set, lead_set, symbol_fits, item_fits, combination};
@@ -14,15 +14,15 @@ use logos_pattern_tokens::bracket::token::{BracketItem, Lead, Symbol};
 use logos_pattern_tokens::token::Flags;
 use std::alloc::{AllocError, Global};
 
-/// Returns the last character, or the last byte if the pattern matches bytes.
+/// Returns the greatest character, or the greatest byte if the pattern matches bytes.
 fn last_of(flags: Flags) -> char
     ensures { result ≡ last_of flags }
 {
     if flags.unicode { char::MAX } else { '\u{FF}' }
 }
 
-/// Returns the set, with the other cases of its members if `i` is on. If the pattern matches bytes,
-/// only ASCII letters have other cases.
+/// Returns the set, with the other cases of its members added if the flag `i` is on. If the pattern
+/// matches bytes, only ASCII letters have other cases.
 pub(crate) fn case_closure(
     alloc: Global,
     flags: Flags,
@@ -39,8 +39,8 @@ pub(crate) fn case_closure(
     fold_ascii(alloc, &set)
 }
 
-/// Returns the set, or its complement if `negated`: among the bytes if the pattern matches bytes,
-/// and among all characters otherwise.
+/// Returns `set`, or its complement if `negated` is `true`. The complement is taken among all bytes
+/// if the pattern matches bytes, and among all characters otherwise.
 pub(crate) fn set_or_complement(
     flags: Flags,
     negated: bool,
@@ -76,7 +76,7 @@ fn symbols_set(alloc: Global, first: Symbol, last: Symbol) -> Result<RangeSet, A
     range_set(alloc, code_of(first), code_of(last))
 }
 
-/// Returns the set of an element, without its negation and as if `i` were off.
+/// Returns the set of an element. The negation of the element and the flag `i` are ignored.
 fn item_test(alloc: Global, flags: Flags, item: BracketItem) -> Result<RangeSet, AllocError>
     ensures { IfOk result (λ set. set_of set ≡ only_chars (item_test flags item)) }
 {
@@ -101,7 +101,8 @@ fn is_negated(item: BracketItem) -> bool
     }
 }
 
-/// Returns the set of an element, with its other cases if `i` is on, and with its negation.
+/// Returns the set of an element, including its negation and, if the flag `i` is on, the other
+/// cases of its members.
 fn item_set(alloc: Global, flags: Flags, item: BracketItem) -> Result<RangeSet, AllocError>
     ensures { IfOk result (λ set. set_of set ≡ item_set flags item) }
 {
@@ -110,8 +111,8 @@ fn item_set(alloc: Global, flags: Flags, item: BracketItem) -> Result<RangeSet, 
     set_or_complement(flags, is_negated(item), same_letters)
 }
 
-/// Returns the ends of an element whose set is one range and needs no case folding: a character, a
-/// byte or a range while `i` is off. Returns `None` for any other element.
+/// Returns the bounds of an element whose set is one range and needs no case folding: a character,
+/// a byte or a range if the flag `i` is off. Returns `None` for any other element.
 fn plain_ends(flags: Flags, item: BracketItem) -> Option<(u32, u32)>
     ensures { IfSome result (λ ends. item_set flags item ≡ members (ends ∷ [])) }
 {
@@ -125,7 +126,7 @@ fn plain_ends(flags: Flags, item: BracketItem) -> Option<(u32, u32)>
     }
 }
 
-/// Appends the ranges of the set of the element `item` to `ranges`.
+/// Appends the ranges of the set that the element `item` denotes to `ranges`.
 pub(crate) fn push_item(
     alloc: Global,
     ranges: &mut Vec<Range>,
@@ -181,8 +182,8 @@ fn symbol_fits(flags: Flags, symbol: Symbol) -> bool
     }
 }
 
-/// Returns whether the flags allow the element. If the pattern matches bytes, its characters must
-/// be ASCII, and it must not be a property.
+/// Returns whether the flags allow the element. If the pattern matches bytes, the element must not
+/// be a property, and its characters must be ASCII.
 pub(crate) fn item_fits(flags: Flags, item: BracketItem) -> bool
     ensures { result ≡ item_fits flags item }
 {

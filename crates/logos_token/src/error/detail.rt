@@ -1,42 +1,44 @@
-//! Details of faults: typed facts beyond the message. The crates that read a source record them
-//! with each fault, and reports and helps match on them instead of parsing the message.
+//! The details of faults: typed data in addition to the message. The crates that read a source
+//! record a detail with each fault. Reports and helps match on the detail instead of parsing the
+//! message.
 
 use crate::token::Span;
 use logos_lexeme::lexeme::LexicalKind;
 
-/// The typed facts of a fault, in addition to its code, its message and its spans.
+/// The data of a fault in typed form, in addition to its code, its message and its spans.
 #[derive(Clone, Copy, Debug)]
 pub enum Detail {
     /// No detail.
     Plain,
     /// The reason why a source cannot be cut into tokens.
     Lexical(LexicalKind),
-    /// The fault of a text that is not a pattern: its kind, its byte offset and its origin.
+    /// The kind, the byte offset and the origin of a fault in a pattern.
     Pattern(PatternDetail),
-    /// The owner of an unknown argument: the option `error`, not a pattern.
+    /// An unknown argument of the option `error`, not of a pattern.
     ErrorArgument,
-    /// A leaf of an ambiguous set: leaves of equal priority that match the same bytes. The faults
-    /// of a set are neighbors in the list of faults, in the order of its leaves.
+    /// A leaf of an ambiguous set. Such a set consists of leaves that have the same priority and
+    /// match the same bytes. The faults of a set are neighbors in the list of faults, in the order
+    /// of the leaves.
     Ambiguous {
-        /// The number of the leaf.
+        /// The index of the leaf.
         leaf: usize,
-        /// The number of the first leaf of the set.
+        /// The index of the first leaf of the set.
         first: usize,
     },
 }
 
-/// The fault of a text that is not a pattern: its kind, its byte offset and its origin.
+/// The kind, the byte offset and the origin of a fault in a pattern.
 #[derive(Clone, Copy, Debug)]
 pub struct PatternDetail {
     pub kind: PatternKind,
     /// The byte offset of the fault in the text of the pattern, with all subpatterns substituted.
     pub at: usize,
-    /// The first four bytes of that text from `at` on.
+    /// The first four bytes of the pattern's text from `at` on.
     pub front: PatternFront,
     pub origin: ByteOrigin,
 }
 
-/// The first four bytes of a text from an offset on. Each byte after the end of the text is 0.
+/// Four bytes of a text, from an offset on. Bytes after the end of the text are 0.
 #[derive(Clone, Copy, Debug)]
 pub struct PatternFront {
     pub first: u8,
@@ -48,26 +50,26 @@ pub struct PatternFront {
 /// The origin of a byte of a pattern's text: the pattern's own literal, or a subpattern.
 #[derive(Clone, Copy, Debug)]
 pub struct ByteOrigin {
-    /// The byte's offset in the text that the pattern's own literal spells; `None` if the byte
-    /// belongs to a subpattern that was put in, or to the group around the text of a subpattern.
+    /// The byte's offset in the text that the pattern's own literal spells, or `None` if the byte
+    /// belongs to a substituted subpattern or to the group around the text of a subpattern.
     pub own: Option<usize>,
-    /// The span in the source of the name of the first subpattern that was put in before the byte,
-    /// at its definition; `None` if there is none.
+    /// The span of the name in the definition of the first subpattern that was substituted before
+    /// the byte, or `None` if there is no such subpattern.
     pub put_in: Option<Span>,
 }
 
-/// The kind of a fault in a pattern, as `logos_pattern` names it.
+/// The kind of a fault in a pattern, under the name that `logos_pattern` uses.
 #[derive(Clone, Copy, Debug)]
 pub enum PatternKind {
     /// A group, a bracket or a brace that is still open at the end of the text.
     Unclosed,
     /// A closing parenthesis where no group is open.
     Unopened,
-    /// An operator with nothing before it that it could repeat.
+    /// A repetition operator that has nothing to repeat.
     NothingToRepeat,
     /// Braces that do not contain counts.
     CountSyntax,
-    /// A least count that is greater than the greatest count.
+    /// A minimum count that is greater than the maximum count.
     CountOrder,
     /// A count of 2^32 or more.
     CountTooLarge,
@@ -75,24 +77,25 @@ pub enum PatternKind {
     FlagUnsupported,
     /// Characters after `(?` that are not a flag setting.
     FlagSyntax,
-    /// Look-around, or a group whose name is malformed or occurs earlier.
+    /// A look-around group such as `(?=..)`, or a group with a malformed or repeated name.
     GroupSyntax,
-    /// A backslash before a character that it cannot escape.
+    /// A backslash before a character that cannot be escaped.
     EscapeUnknown,
-    /// An escape by number without digits, with too few digits, or with other characters.
+    /// A numeric escape without digits, with too few digits, or with characters that are not
+    /// digits.
     HexSyntax,
-    /// An escape with a number that is not the number of a Unicode scalar value.
+    /// A numeric escape whose number is not a Unicode scalar value.
     HexNotScalar,
-    /// A range that begins after its end, or one of whose ends is a class.
+    /// A range whose start is greater than its end, or a range with a class as its start or end.
     ClassRange,
-    /// The name of a property that no set of characters has.
+    /// An unknown property name.
     UnknownProperty,
-    /// A property with a value, or a property that `^` negates.
+    /// A property with a value, or a property negated by `^`.
     PropertyForm,
-    /// A property, or a character outside ASCII in a bracket, in a pattern that matches bytes.
+    /// A property, or a non-ASCII character in a bracket, in a pattern that matches bytes.
     NotInBytes,
     /// A word boundary in a pattern that matches characters.
     UnicodeWordBoundary,
-    /// A word boundary that is written as `\b{..}`, `\<` or `\>`.
+    /// A word boundary written as `\b{..}`, `\<` or `\>`.
     WordBoundaryForm,
 }

@@ -1,11 +1,11 @@
-//! The codes of faults. Every crate that adds a fault to an `Errors` names one.
+//! The codes of faults. Every crate that adds a fault to an `Errors` passes its code.
 
 ghost use Rattle.std.specs.Prelude.{◌≡◌, Some};
 ghost use Rattle.logos_token.specs.ViewImports.{name_of};
 
 use std::fmt;
 
-/// The kind of a fault of a source. It is printed as its name.
+/// The kind of a fault in a source. It is printed as the name of the variant.
 #[derive(Clone, Copy, PartialEq, Eq)]
 pub enum FaultCode {
     /// A point at which the source cannot be cut into tokens.
@@ -22,11 +22,11 @@ pub enum FaultCode {
     LimitSource,
     /// More open delimiters than the limit allows.
     LimitTokenNesting,
-    /// More types nested inside one another than the limit allows.
+    /// Types that are nested more deeply than the limit allows.
     LimitTypeNesting,
-    /// More nested groups, brackets and repetitions than the limit allows.
+    /// Groups, brackets and repetitions that are nested more deeply than the limit allows.
     LimitPatternNesting,
-    /// Trees that are together larger than the limit allows.
+    /// Patterns whose trees are together larger than the limit allows.
     LimitSize,
     /// An automaton with more states than the limit allows.
     LimitStates,
@@ -45,17 +45,17 @@ pub enum FaultCode {
     TypeHoldsItself,
     /// `logos` without its parentheses.
     LogosForm,
-    /// An argument of `logos(..)` that has none of the known forms.
+    /// An argument of `logos(..)` in an unsupported form.
     InvalidNested,
     /// An unknown name in `logos(..)`.
     UnknownLogos,
-    /// `crate` in another form than `crate = path`.
+    /// `crate` in a form other than `crate = path`.
     CrateForm,
     /// A second error type.
     ErrorTwice,
     /// A second export path.
     ExportTwice,
-    /// A second type of extras.
+    /// A second type for the extras.
     ExtrasTwice,
     /// A second UTF-8 mode.
     Utf8Twice,
@@ -63,7 +63,7 @@ pub enum FaultCode {
     ErrorEmpty,
     /// `error` in an unsupported form.
     ErrorForm,
-    /// An export path that is not a text.
+    /// An export path that is not a string.
     ExportBytes,
     /// `export_dir` in an unsupported form.
     ExportForm,
@@ -85,13 +85,13 @@ pub enum FaultCode {
     Utf8Form,
     /// No literal where a literal is expected.
     LiteralSyntax,
-    /// A literal that is neither a text nor a byte string.
+    /// A literal that is neither a string nor a byte string.
     NotText,
     /// Tokens after an argument.
     UnexpectedToken,
     /// An argument without a name where only named arguments are allowed.
     NamedExpected,
-    /// A priority that is not a number that fits `usize`.
+    /// A priority that is not a number or does not fit `usize`.
     PriorityValue,
     /// A second priority.
     PriorityTwice,
@@ -125,7 +125,7 @@ pub enum FaultCode {
     IgnoreToken,
     /// An unknown name among the arguments.
     UnknownNested,
-    /// A variant whose number of fields is not one.
+    /// A variant with parentheses that do not contain exactly one field.
     VariantFields,
     /// A variant with named fields.
     NamedFields,
@@ -145,9 +145,9 @@ pub enum FaultCode {
     SubpatternMissing,
     /// A second subpattern with the same name.
     SubpatternTwice,
-    /// A pattern that can match invalid UTF-8, in UTF-8 mode.
+    /// In UTF-8 mode, a pattern that can match invalid UTF-8.
     Utf8Pattern,
-    /// A subpattern that can match invalid UTF-8, in UTF-8 mode.
+    /// In UTF-8 mode, a subpattern that can match invalid UTF-8.
     Utf8Subpattern,
     /// A pattern that matches the empty string.
     EmptyMatch,
@@ -155,9 +155,9 @@ pub enum FaultCode {
     Disambiguation,
     /// A pattern with a look-around assertion before its first byte.
     NoUniversalStart,
-    /// A pattern that repeats any character without a bound, greedily.
+    /// A pattern with an unbounded greedy repetition of any character.
     GreedyDot,
-    /// The earlier span that another fault is about.
+    /// The earlier span to which another fault refers.
     Previous,
 }
 
@@ -241,7 +241,7 @@ const NAMES: [&str; 75] = [
 ];
 
 impl FaultCode {
-    /// Returns the name of the code, as it is printed.
+    /// Returns the printed name of the code.
     pub fn name(self) -> &'static str
         ensures { result.now ≡ name_of self }
     {

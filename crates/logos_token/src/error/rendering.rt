@@ -7,7 +7,7 @@ ghost use Rattle.logos_token.specs.ViewImports.{flat_map, faults_of, fault_of, r
 use crate::error::{Errors, Memory, SpannedError};
 use crate::util::push_escaped;
 
-/// Appends to `text` the `compile_error!` that reports the message of one fault.
+/// Appends a `compile_error!` with the message of the fault to `text`.
 fn push_fault(text: &mut String, fault: &SpannedError) -> Result<(), Memory>
     ensures { OnOk result
         (string_bytes text.new ≡ string_bytes text.old ++ rendered_fault (fault_of fault.now)) }
@@ -18,7 +18,7 @@ fn push_fault(text: &mut String, fault: &SpannedError) -> Result<(), Memory>
     Ok(())
 }
 
-/// Appends to `text` the `compile_error!` of each fault, in order.
+/// Appends a `compile_error!` with the message of each fault to `text`, in order.
 fn push_faults(text: &mut String, faults: &[SpannedError]) -> Result<(), Memory>
     ensures { OnOk result
         (string_bytes text.new ≡
@@ -32,8 +32,8 @@ fn push_faults(text: &mut String, faults: &[SpannedError]) -> Result<(), Memory>
 
 impl Errors {
     /// Returns the text of a function that does not compile, followed by `unimplemented!()`. The
-    /// compile errors of the function are the messages of the faults. Returns `None` if there is no
-    /// fault.
+    /// compile errors of the function are the messages of the faults. Returns `None` if the list is
+    /// empty.
     ///
     /// # Errors
     ///

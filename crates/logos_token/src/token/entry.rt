@@ -3,8 +3,8 @@
 
 use crate::token::{Delimiter, Doc, Ident, Literal, Punct, Span};
 
-/// An entry of a token buffer: a token that is not a group, or the head of a group, which the
-/// entries of the tokens inside the group follow.
+/// An entry of a token buffer: a token that is not a group, or the head of a group. The entries of
+/// the tokens inside a group follow its head.
 #[derive(Clone, Copy)]
 pub enum Entry<'s> {
     Ident(Ident<'s>),

@@ -11,14 +11,14 @@ pub fn prints_back()
 {}
 
 /// The printed text of neighboring tokens of a source, at any depth, spells the same tokens again,
-/// apart from their spans, unless the last of them is joint punctuation.
+/// apart from their spans, unless the last token is joint punctuation.
 pub fn prints_runs_back()
     ensures { (bytes : List ℕ) → IsUtf8 bytes → (tokens : TokenList) → Spells bytes tokens →
         (run : TokenList) → IsRunOf run tokens → (EndsJoint run → ⊥) →
         SpellsAgain (printed run) run }
 {}
 
-/// The span of neighboring tokens of a source, at any depth, is a span of the source.
+/// The span of neighboring tokens of a source, at any depth, is within the source.
 pub fn runs_have_spans()
     ensures { (bytes : List ℕ) → IsUtf8 bytes → (run tokens : TokenList) → Spells bytes tokens →
         IsRunOf run tokens → IsSpanOf bytes (run_span run) }

@@ -1,4 +1,4 @@
-//! Prints tokens as Rust text. The printers of callbacks, types and stripped enums call it.
+//! Prints tokens as Rust text. The printers of callbacks, types and stripped enums call `print`.
 
 ghost use Rattle.std.specs.Prelude.{◌≡◌, ◌<◌, ◌∷◌, [], List, ℕ, IsUtf8, IfOk, IfSome, MatchOption, string_bytes, codes, if◌then◌else◌, OnOk};
 ghost use Rattle.logos_token.specs.ViewImports.{SpellsAgain, IsRunOf, EndsJoint, Spells, TokenList, none, opening_text, closing_text, gap_after, is_line_comment, printed, encode_utf8, print_part, tokens_of, printed_of, PrintsOn, LeavesFewer, tree_of, PrintsTree};
@@ -47,8 +47,8 @@ pub fn closing_text(delimiter: Delimiter) -> &'static str
     }
 }
 
-/// Returns the gap to print between punctuation of this spacing and the next lexeme: a space after
-/// `Alone`, and nothing after `Joint`.
+/// Returns the gap to print between punctuation and the next lexeme: a space for the spacing
+/// `Alone`, and nothing for `Joint`.
 pub fn gap_after(spacing: Spacing) -> &'static str
     ensures { result.now ≡ gap_after spacing }
 {
@@ -70,7 +70,7 @@ pub fn gap_after_doc(text: &str) -> &'static str
 }
 
 impl Printer {
-    /// Returns a printer that has printed nothing. It takes its memory from `alloc`.
+    /// Returns a printer that has not printed anything yet and takes its memory from `alloc`.
     pub fn new(alloc: Global) -> Printer
         ensures { printed_of result ≡ record { text = []; gap = [] } }
     {
@@ -80,15 +80,15 @@ impl Printer {
         }
     }
 
-    /// Returns the text printed so far, without the gap after its last lexeme.
+    /// Returns the text printed so far, without the gap after the last lexeme.
     pub fn into_text(self) -> String
         ensures { string_bytes result ≡ (printed_of self).text }
     {
         self.text
     }
 
-    /// Prints the gap after the previous lexeme, and the lexeme `text`. The gap after `text` will
-    /// be `gap`.
+    /// Prints the gap after the previous lexeme and then the lexeme `text`. The gap after `text`
+    /// will be `gap`.
     ///
     /// # Errors
     ///
@@ -104,7 +104,7 @@ impl Printer {
         Ok(())
     }
 
-    /// Prints the gap after the previous lexeme, and the lexeme `character`. The gap after
+    /// Prints the gap after the previous lexeme and then the lexeme `character`. The gap after
     /// `character` will be `gap`.
     ///
     /// # Errors
@@ -120,7 +120,7 @@ impl Printer {
         Ok(())
     }
 
-    /// Prints a token, or the opening delimiter of a group. Returns the group, whose contents
+    /// Prints a token, or the opening delimiter of a group. Returns the group if its contents
     /// remain to be printed, or `None` for a token that is not a group.
     fn add_tree<'t, 's>(&mut self, tree: TokenTree<'t, 's>) -> Result<Option<Group<'t, 's>>, Memory>
         ensures { IfOk result (λ inner.
@@ -160,7 +160,7 @@ fn leave<'t, 's>(
 }
 
 /// Prints the first tree of `rest`, or closes a group if `rest` is empty. Returns the trees to
-/// print next, or `None` if everything is printed.
+/// print next, or `None` if all trees have been printed.
 fn step<'t, 's>(
     printer: &mut Printer,
     outer: &mut Vec<Outer<'t, 's>>,
@@ -185,11 +185,11 @@ fn step<'t, 's>(
     Ok(Some(group.run()))
 }
 
-/// Returns the text of the tokens: their lexemes, separated by one space, without a space after
-/// joint punctuation, and with LF after a line comment.
+/// Returns the text of the tokens. The lexemes are separated by one space, but by nothing after
+/// joint punctuation and by LF after a line comment.
 ///
-/// If the tokens occur in a source and the last of them is not joint punctuation, the text spells
-/// the same tokens again, apart from their spans.
+/// If the tokens occur in a source and the last token is not joint punctuation, the text spells the
+/// same tokens again, apart from their spans.
 ///
 /// # Errors
 ///

@@ -24,7 +24,7 @@ pub enum TokenError {
     LimitSource,
     /// More than 128 delimiters are open at this opening delimiter.
     LimitTokenNesting { span: Span },
-    /// Memory ran out for the tokens.
+    /// Memory ran out.
     Memory,
 }
 
@@ -54,7 +54,7 @@ struct OpenGroup {
     spot: usize,
 }
 
-/// Returns whether `closing` closes `opening`.
+/// Returns whether the delimiter `closing` closes a group that `opening` opened.
 fn is_partner(opening: Delimiter, closing: Delimiter) -> bool
     ensures { IsTrue result ↔ (opening ≡ closing) }
 {
@@ -62,7 +62,7 @@ fn is_partner(opening: Delimiter, closing: Delimiter) -> bool
 }
 
 /// Appends the entry of a group to `entries` and the group to `open_groups`. `span` is the span of
-/// its opening delimiter. Returns `LimitTokenNesting` if 128 groups are open.
+/// the group's opening delimiter. Returns `LimitTokenNesting` if 128 groups are open.
 fn begin_group(
     entries: &mut Vec<Entry<'_>>,
     open_groups: &mut Vec<OpenGroup>,
@@ -91,7 +91,8 @@ fn begin_group(
 }
 
 /// Ends the innermost open group at the closing delimiter at `span`, and sets the span and the size
-/// of its entry. Returns `Unbalanced` at `span` if no group is open or the delimiters differ.
+/// of the group's entry. Returns `Unbalanced` at `span` if no group is open or the delimiters
+/// differ.
 fn end_group(
     entries: &mut Vec<Entry<'_>>,
     open_groups: &mut Vec<OpenGroup>,
@@ -127,7 +128,7 @@ fn end_group(
     Ok(())
 }
 
-/// Appends `entry`, which is a token that is not a group, to `entries`.
+/// Appends the entry of a token that is not a group to `entries`.
 fn push<'s>(entries: &mut Vec<Entry<'s>>, entry: Entry<'s>) -> Result<(), TokenError>
     ensures ok { OnOk result (entries.new.items ≡ entries.old.items ++ entry.entry ∷ []) }
     ensures err { IfErr result (λ error. error ≡ TokenError.Memory) }
@@ -137,7 +138,7 @@ fn push<'s>(entries: &mut Vec<Entry<'s>>, entry: Entry<'s>) -> Result<(), TokenE
 }
 
 /// Adds the lexeme of the kind `kind` at `span` of `source` to `entries`, and opens or ends a group
-/// at a delimiter. A gap adds nothing.
+/// if the lexeme is a delimiter. A gap adds nothing.
 fn add<'s>(
     entries: &mut Vec<Entry<'s>>,
     open_groups: &mut Vec<OpenGroup>,
@@ -208,10 +209,14 @@ fn finish<'s>(
 ///
 /// # Errors
 ///
-/// Returns `LimitSource`, without reading the source, if it is longer than 16,777,216 bytes;
-/// `Lexical` with the first fault from the left, where a delimiter that is never closed counts as a
-/// fault at the end of the source; `LimitTokenNesting` at the first opening delimiter at which more
-/// than 128 delimiters are open; and `Memory` if memory runs out.
+/// Returns `LimitSource` if the source is longer than 16,777,216 bytes. The source is then not
+/// read.
+///
+/// Returns `Lexical` with the first fault from the left. A delimiter that is never closed counts as
+/// a fault at the end of the source.
+///
+/// Returns `LimitTokenNesting` at the first opening delimiter at which more than 128 delimiters are
+/// open, and `Memory` if memory runs out.
 pub fn tokenize<'s>(alloc: Global, src: &'s str) -> Result<TokenStream<'s>, TokenError>
     ensures ok { IfOk result (λ stream. Spells src.now (stream_tokens stream)) }
     ensures shallow { IfOk result (λ stream. depth_of (stream_tokens stream) ≤ delimiter_limit) }
@@ -246,8 +251,8 @@ pub fn spells_once()
         Spells bytes tokens → Spells bytes other → tokens ≡ other }
 {}
 
-/// The tokens that a source spells occur in it in order. The text of each is the source at its
-/// span.
+/// The tokens that a source spells occur in the source in order. The text of each token is the text
+/// of the source at the token's span.
 pub fn spelled_in_order()
     ensures { (bytes : List ℕ) (tokens : TokenList) →
         Spells bytes tokens → RunOccurs bytes 0 tokens (length bytes) }

@@ -21,8 +21,8 @@ pub enum LiteralValue {
     Bytes(Vec<u8>),
 }
 
-/// Returns whether `byte` in the contents of a string begins a piece that is not the byte itself.
-/// `escapes` is `false` for a raw string.
+/// Returns whether `byte` begins a piece of a string's contents that does not represent the byte
+/// itself. `escapes` is `false` for a raw string.
 fn is_special(escapes: bool, byte: u8) -> bool
     ensures { result ≡ ((byte == 13) || (escapes && (byte == 92))) }
 {
@@ -30,7 +30,7 @@ fn is_special(escapes: bool, byte: u8) -> bool
 }
 
 /// Returns the byte offset of the first byte from `from` on that does not represent itself, or `to`
-/// if each byte before `to` represents itself.
+/// if each byte before `to` represents itself. `escapes` is `false` for a raw string.
 fn plain_end(source: &str, escapes: bool, from: usize, to: usize) -> usize
     requires inside { from ≤ to }
     requires within { to ≤ length source.now }
@@ -60,9 +60,9 @@ fn push_text(value: &mut String, piece: Piece) -> Result<(), AllocError>
     }
 }
 
-/// Appends to `value` the bytes of a string from `at` on that represent themselves, or the value of
-/// the piece at `at` if there are no such bytes. Returns the byte offset after them or after the
-/// piece. Returns `None` if there is neither.
+/// Appends the next part of a string's contents to `value`: the bytes from `at` on that represent
+/// themselves or, if there are none, the value of the piece at `at`. Returns the byte offset after
+/// this part. Returns `None` if no piece begins at `at`.
 fn add_text(
     value: &mut String,
     source: &str,
@@ -90,8 +90,8 @@ fn add_text(
     Ok(Some(next))
 }
 
-/// Returns the text of a string whose contents are the span from `from` to `to` of `source`.
-/// Returns `None` if the contents do not consist of pieces.
+/// Returns the text of a string whose contents are the bytes from `from` to `to` of `source`.
+/// `escapes` is `false` for a raw string. Returns `None` if the contents do not consist of pieces.
 fn text_between(
     alloc: Global,
     source: &str,
@@ -133,8 +133,9 @@ fn push_bytes(value: &mut Vec<u8>, piece: Piece) -> Result<(), AllocError>
     }
 }
 
-/// Returns the bytes of a byte string whose contents are the span from `from` to `to` of `source`.
-/// Returns `None` if the contents do not consist of pieces.
+/// Returns the bytes of a byte string whose contents are the bytes from `from` to `to` of `source`.
+/// `escapes` is `false` for a raw byte string. Returns `None` if the contents do not consist of
+/// pieces.
 fn bytes_between(
     alloc: Global,
     source: &str,
@@ -162,8 +163,9 @@ fn bytes_between(
     Ok(Some(value))
 }
 
-/// Returns the value of a string or byte string whose contents are the span from `from` to `to` of
-/// `source`. Returns `None` if the contents are malformed or belong to a C string.
+/// Returns the value of a string or byte string whose contents are the bytes from `from` to `to` of
+/// `source`. `escapes` is `false` for a raw literal. Returns `None` if the contents are malformed
+/// or belong to a C string.
 fn value_between(
     alloc: Global,
     source: &str,
@@ -223,7 +225,7 @@ impl Literal<'_> {
     ///
     /// # Errors
     ///
-    /// Returns `Memory` if memory runs out for the value.
+    /// Returns `Memory` if memory runs out.
     pub fn value(&self, alloc: Global) -> Result<Option<LiteralValue>, Memory>
         ensures value { IfOk result (λ value. IsValue self.now.text.now value) }
         ensures held { IfOk result (λ value.

@@ -1,5 +1,5 @@
-//! Token buffers, which are flat, and views of runs of their tokens. All crates that read tokens
-//! use them.
+//! Flat token buffers, and views of runs of their tokens. All crates that read tokens use this
+//! module.
 
 ghost use Rattle.logos_token.specs.Imports.{props};
 ghost use Rattle.logos_token.specs.Flat.{IsFlat};
@@ -11,14 +11,14 @@ use crate::token::entry::Entry;
 use crate::token::{Delimiter, Doc, Ident, Literal, Punct, Span};
 use std::alloc::{AllocError, Global};
 
-/// Tokens that own their buffer: those of a whole source, or a run that was copied or built.
+/// Tokens that own their buffer: the tokens of a whole source, or a run that was copied or built.
 #[derive(Drop)]
 pub struct TokenStream<'s> {
     entries: Vec<Entry<'s>>,
     ghost nested: { IsFlat entries.items } by { Prim.hlevel props },
 }
 
-/// A run of neighboring token trees, as a view of their buffer.
+/// A view of a run of neighboring token trees in a buffer.
 #[derive(Clone, Copy)]
 pub struct Tokens<'t, 's> {
     entries: &'t [Entry<'s>],
@@ -29,7 +29,7 @@ pub struct Tokens<'t, 's> {
 #[derive(Clone, Copy)]
 pub struct Group<'t, 's> {
     pub delimiter: Delimiter,
-    /// The span from the opening delimiter to the closing delimiter, both included.
+    /// The span from the start of the opening delimiter to the end of the closing delimiter.
     pub span: Span,
     inside: Tokens<'t, 's>,
 }
@@ -75,7 +75,7 @@ impl<'s> TokenStream<'s> {
         Ok(TokenStream { entries })
     }
 
-    /// Returns the run of all trees.
+    /// Returns the run of all trees of the buffer.
     pub fn run(&self) -> Tokens<'_, 's>
         ensures { tokens_of result ≡ stream_tokens self.now }
     {
@@ -102,7 +102,7 @@ impl<'t, 's> Tokens<'t, 's> {
     ghost use Rattle.std.specs.Prelude.{◌≡◌, ◌↔◌, IsTrue, MatchOption, option_map, IfOk};
     ghost use Rattle.logos_token.specs.ViewImports.{none, also, IsRestOf, first_of, rest_of, run_span, count_of, stream_tokens, tokens_of, tree_of, iter_rest, listed};
 
-    /// Returns whether the run has no tree.
+    /// Returns whether the run contains no trees.
     pub fn is_empty(self) -> bool
         ensures { IsTrue result ↔ (tokens_of self.entry ≡ none) }
     {
@@ -155,8 +155,7 @@ impl<'t, 's> Tokens<'t, 's> {
         }
     }
 
-    /// Returns the trees of this run before `rest`. `rest` must be this run without some of its
-    /// first trees.
+    /// Returns the trees of this run before `rest`, where `rest` must be a suffix of this run.
     pub fn before(self, rest: Tokens<'t, 's>) -> Tokens<'t, 's>
         requires { IsRestOf (tokens_of self) (tokens_of rest) }
         ensures { (split : IsRestOf (tokens_of self.entry) (tokens_of rest.entry)) →

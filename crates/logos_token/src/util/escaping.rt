@@ -5,7 +5,8 @@ ghost use Rattle.logos_token.specs.Imports.{escaped_character, escaped};
 
 use crate::error::Memory;
 
-/// Appends a character to `text` as it is written between the quotes of a string literal.
+/// Appends a character to `text` in the form in which it is written between the quotes of a string
+/// literal.
 fn push_character(text: &mut String, character: char) -> Result<(), Memory>
     ensures { OnOk result
         (string_bytes text.new ≡ string_bytes text.old ++ escaped_character character) }
@@ -21,8 +22,8 @@ fn push_character(text: &mut String, character: char) -> Result<(), Memory>
     Ok(())
 }
 
-/// Appends `value` to `text` as it is written between the quotes of a string literal: `"`, `\`, LF,
-/// CR and tab as escapes, and each other character as itself.
+/// Appends `value` to `text` in the form in which it is written between the quotes of a string
+/// literal. `"`, `\`, LF, CR and tab become escapes, and each other character represents itself.
 ///
 /// # Errors
 ///

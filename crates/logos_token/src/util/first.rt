@@ -16,7 +16,7 @@ pub fn begins_with(mark: char, tokens: Tokens<'_, '_>) -> bool
     }
 }
 
-/// Returns the tokens after the identifier `word`, or `None` if the run does not begin with it.
+/// Returns the tokens after the identifier `word`, or `None` if the run does not begin with `word`.
 pub fn after_word<'t, 's>(word: &str, tokens: Tokens<'t, 's>) -> Option<Tokens<'t, 's>>
     ensures { MatchOption result (after_word word.now (tokens_of tokens.entry) ≡ None)
         (λ rest. after_word word.now (tokens_of tokens.entry) ≡ Some (tokens_of rest)) }
@@ -27,7 +27,7 @@ pub fn after_word<'t, 's>(word: &str, tokens: Tokens<'t, 's>) -> Option<Tokens<'
     }
 }
 
-/// Returns whether `punct` is a `:` with the spacing `Joint`, as the first `:` of `::` is.
+/// Returns whether `punct` is a `:` with the spacing `Joint`, such as the first `:` of `::`.
 pub fn is_path_mark(punct: Punct) -> bool
     ensures { result ≡ is_path_mark punct.character punct.spacing }
 {
@@ -48,7 +48,7 @@ fn after_colon<'t, 's>(tokens: Tokens<'t, 's>) -> Option<Tokens<'t, 's>>
     }
 }
 
-/// Returns the tokens after `::`, or `None` if the run does not begin with it.
+/// Returns the tokens after `::`, or `None` if the run does not begin with `::`.
 pub fn after_path_mark<'t, 's>(tokens: Tokens<'t, 's>) -> Option<Tokens<'t, 's>>
     ensures { MatchOption result (after_path_mark (tokens_of tokens.entry) ≡ None)
         (λ rest. after_path_mark (tokens_of tokens.entry) ≡ Some (tokens_of rest)) }

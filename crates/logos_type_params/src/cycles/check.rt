@@ -1,5 +1,5 @@
-//! Checks the memberships of all nodes, and reads from them the nodes that lie on a cycle.
-//! `on_cycles` calls these functions with the memberships that `evidence` finds.
+//! Checks the memberships of nodes in strongly connected components, and finds the nodes that lie
+//! on a cycle. `on_cycles` calls these functions with the memberships that `evidence` finds.
 
 ghost use Rattle.std.specs.Prelude.{◌≡◌, ℕ, ◌<◌, ◌↔◌, Some, true, false, IfOk, IfSome, IsTrue, Contains, length, vec_len, slice_index_or};
 ghost use Rattle.logos_type_params.specs.cycles.Views.{slice_get, Leads, graph, Edge, Follows, GoesToward, ComesFrom, FollowAll, HasRoot, HasInner, IsPlaced, IsEvidence};
@@ -7,8 +7,8 @@ ghost use Rattle.logos_type_params.specs.cycles.Views.{slice_get, Leads, graph, 
 use crate::cycles::evidence::Membership;
 use std::alloc::{AllocError, Global};
 
-/// Returns the node to which an edge of `node` leads. `edge` is the index of the edge in the list
-/// of `node`. Returns `None` if there is no such edge.
+/// Returns the node to which the edge at the index `edge` in the list of `node` leads, or `None` if
+/// there is no such edge.
 fn target(lists: &[Vec<usize>], node: usize, edge: usize) -> Option<usize>
     ensures { IfSome result (λ to. Edge (graph lists.now) node to) }
 {
@@ -17,8 +17,8 @@ fn target(lists: &[Vec<usize>], node: usize, edge: usize) -> Option<usize>
     Some(*to)
 }
 
-/// Returns whether `node` is its own root, or the edge `toward` of its `membership` leads to a node
-/// of the same component with a lower `to_rank`.
+/// Returns whether `node` is its own root, or its edge at the index `membership.toward` leads to a
+/// node of the same component with a lower `to_rank`.
 fn goes_toward(
     lists: &[Vec<usize>],
     memberships: &[Membership],
@@ -42,8 +42,9 @@ fn goes_toward(
     other.to_rank < membership.to_rank
 }
 
-/// Returns whether `node` is its own root, or the edge `edge` of the node `from`, both in
-/// `membership`, leads to `node`, and `from` is in the same component with a lower `from_rank`.
+/// Returns whether `node` is its own root, or the edge at the index `membership.edge` of the node
+/// `membership.from` leads to `node`. In the second case, `membership.from` must be in the same
+/// component and have a lower `from_rank`.
 fn comes_from(
     lists: &[Vec<usize>],
     memberships: &[Membership],
@@ -67,8 +68,8 @@ fn comes_from(
     other.from_rank < membership.from_rank
 }
 
-/// Returns whether the node `to` is in the component of `membership` or in a later one. A number
-/// without a node counts as later.
+/// Returns whether the node `to` is in the component of `membership` or in a later component. A
+/// number without a node counts as later.
 fn follows(memberships: &[Membership], membership: Membership, to: usize) -> bool
     ensures { IsTrue result → (next : Membership) →
         slice_get memberships.now to ≡ Some next → Follows membership next }
@@ -79,8 +80,8 @@ fn follows(memberships: &[Membership], membership: Membership, to: usize) -> boo
     membership.order < next.order || membership.order == next.order && membership.root == next.root
 }
 
-/// Returns whether each node in `targets` is in the component of `membership` or in a later one.
-/// Numbers without nodes count as later.
+/// Returns whether each node in `targets` is in the component of `membership` or in a later
+/// component. Numbers without nodes count as later.
 fn follow_all(memberships: &[Membership], membership: Membership, targets: &[usize]) -> bool
     ensures { IsTrue result → FollowAll memberships.now membership targets.now }
 {
@@ -92,7 +93,7 @@ fn follow_all(memberships: &[Membership], membership: Membership, targets: &[usi
     true
 }
 
-/// Returns whether the membership of `node` is correct. It is not if there is no such node.
+/// Returns whether the membership of `node` is correct. Returns `false` if there is no such node.
 fn is_placed(lists: &[Vec<usize>], memberships: &[Membership], node: usize) -> bool
     ensures { IsTrue result → (membership : Membership) → slice_get memberships.now node ≡ Some membership →
         IsPlaced (graph lists.now) memberships.now node membership }
@@ -112,7 +113,8 @@ fn is_placed(lists: &[Vec<usize>], memberships: &[Membership], node: usize) -> b
     follow_all(memberships, *membership, list)
 }
 
-/// Returns whether there is a membership for each node of `lists`, and all are correct.
+/// Returns whether `memberships` contains exactly one membership for each node of `lists`, and all
+/// memberships are correct.
 pub(crate) fn is_evidence(lists: &[Vec<usize>], memberships: &[Membership]) -> bool
     ensures { IsTrue result → IsEvidence (graph lists.now) memberships.now }
 {
@@ -127,7 +129,7 @@ pub(crate) fn is_evidence(lists: &[Vec<usize>], memberships: &[Membership]) -> b
     true
 }
 
-/// Returns whether there is a node `node` and its root is `root`.
+/// Returns whether the node `node` exists and has the root `root`.
 fn has_root(memberships: &[Membership], node: usize, root: usize) -> bool
     ensures { IsTrue result ↔ HasRoot memberships.now node root }
 {
@@ -149,8 +151,8 @@ fn has_inner(memberships: &[Membership], root: usize, targets: &[usize]) -> bool
     false
 }
 
-/// Returns whether `node` lies on a cycle: whether one of its edges leads to a node of its own
-/// component.
+/// Returns whether `node` lies on a cycle. A node lies on a cycle if and only if one of its edges
+/// leads to a node of its own component.
 fn mark(lists: &[Vec<usize>], memberships: &[Membership], node: usize) -> bool
     requires within { node < length lists.now }
     requires evidence { IsEvidence (graph lists.now) memberships.now }
@@ -159,7 +161,7 @@ fn mark(lists: &[Vec<usize>], memberships: &[Membership], node: usize) -> bool
     has_inner(memberships, memberships[node].root, &lists[node])
 }
 
-/// Returns for each node whether it lies on a cycle. The memberships must be correct.
+/// Returns, for each node, whether it lies on a cycle. The memberships must be correct.
 ///
 /// # Errors
 ///

@@ -1,5 +1,6 @@
-//! Finds the membership of each node in the components of a graph. `on_cycles` calls `memberships`
-//! first. The functions here have no contracts, since `check` validates their result.
+//! Finds the membership of each node in the strongly connected components of a graph. `on_cycles`
+//! calls `memberships` first. The functions in this module have no contracts, because `check`
+//! validates their result.
 
 mod backward_walk;
 mod forward_walk;
@@ -8,29 +9,29 @@ use crate::cycles::evidence::backward_walk::Backward;
 use crate::cycles::evidence::forward_walk::Forward;
 use std::alloc::{AllocError, Global};
 
-/// The membership of a node in a component of its graph. A component is a maximal set of nodes that
-/// all lead to one another.
+/// The membership of a node in a strongly connected component of its graph. Such a component is a
+/// maximal set of nodes with paths from each node to every other node.
 #[derive(Clone, Copy)]
 pub(crate) struct Membership {
     /// The node that identifies the component.
     pub(crate) root: usize,
     /// The number of the component. Edges between components lead to greater numbers.
     pub(crate) order: usize,
-    /// The index of the node's edge that leads nearer to the root.
+    /// The index of the node's edge that leads closer to the root.
     pub(crate) toward: usize,
-    /// An upper bound of the distance from the node to the root along the edges `toward`: it
-    /// decreases with each of these edges.
+    /// An upper bound for the distance from the node to the root along the edges `toward`. The
+    /// bound decreases along each of these edges.
     pub(crate) to_rank: usize,
-    /// The node before this one on a path from the root of the component.
+    /// The predecessor of the node on a path from the root of the component.
     pub(crate) from: usize,
-    /// The index, among the edges of `from`, of the edge that leads to this node.
+    /// The index, among the edges of `from`, of the edge that leads to the node.
     pub(crate) edge: usize,
-    /// A number that increases along the edges from `from` to this node, beginning at the root.
+    /// A number that increases along the path from the root to the node.
     pub(crate) from_rank: usize,
 }
 
-/// Marks `node` as visited. Returns whether this is its first visit: `false` also if there is no
-/// such node.
+/// Marks `node` as visited. Returns `true` on the first visit, and `false` on later visits or if
+/// there is no such node.
 fn meets(met: &mut [bool], node: usize) -> bool {
     let Some(met) = met.get_mut(node) else {
         return false;
@@ -43,8 +44,8 @@ fn meets(met: &mut [bool], node: usize) -> bool {
 }
 
 /// Returns the membership of each node. A forward traversal along the edges determines the order in
-/// which nodes are finished. Backward traversals against the edges, from the last node of that
-/// order on, determine the components.
+/// which nodes are finished. Backward traversals against the edges, beginning with the node
+/// finished last, determine the components.
 ///
 /// # Errors
 ///

@@ -1,21 +1,21 @@
-//! Finds the nodes that lie on a cycle by a traversal from each node. `on_cycles` calls `marks` if
-//! the check fails.
+//! Finds the nodes that lie on a cycle by traversing the graph from each node. `on_cycles` calls
+//! `marks` if the check fails.
 
 ghost use Rattle.std.specs.Prelude.{◌≡◌, ℕ, ◌<◌, ◌↔◌, [], ◌∷◌, true, false, IfOk, OnOk, IsTrue, Contains, length, vec_len, slice_index_or};
 ghost use Rattle.logos_type_params.specs.cycles.Views.{Leads, targets_of, Reaches, graph};
 
 use std::alloc::{AllocError, Global};
 
-/// A traversal from one node: the nodes that it has found so far.
+/// The state of a traversal from one node.
 #[derive(Drop)]
 struct Traversal {
     /// For each node, whether it has been found.
     found: Vec<bool>,
-    /// The nodes that have been found, and whose edges have not been followed yet.
+    /// The found nodes whose edges have not been followed yet.
     waiting: Vec<usize>,
 }
 
-/// Adds the node `to` to the found ones, unless it is already found or there is no such node.
+/// Adds the node `to` to the found nodes, unless the node has already been found or does not exist.
 fn add(traversal: &mut Traversal, to: usize) -> Result<(), AllocError>
     ensures { OnOk result (Reaches (to ∷ []) traversal.old.found.items traversal.old.waiting.items
         traversal.new.found.items traversal.new.waiting.items) }
@@ -31,7 +31,7 @@ fn add(traversal: &mut Traversal, to: usize) -> Result<(), AllocError>
     Ok(())
 }
 
-/// Adds the nodes in `targets` to the found ones.
+/// Adds the nodes in `targets` to the found nodes.
 fn add_all(traversal: &mut Traversal, targets: &[usize]) -> Result<(), AllocError>
     ensures { OnOk result (Reaches targets.now traversal.old.found.items traversal.old.waiting.items
         traversal.new.found.items traversal.new.waiting.items) }
@@ -42,7 +42,7 @@ fn add_all(traversal: &mut Traversal, targets: &[usize]) -> Result<(), AllocErro
     Ok(())
 }
 
-/// Adds the nodes to which the edges of `from` lead to the found ones.
+/// Adds the nodes to which the edges of `from` lead to the found nodes.
 fn add_targets(
     lists: &[Vec<usize>],
     from: usize,
@@ -58,7 +58,7 @@ fn add_targets(
     add_all(traversal, list)
 }
 
-/// Returns whether a path of one edge or more leads from `node` back to `node`.
+/// Returns whether a path of at least one edge leads from `node` back to `node`.
 fn leads_back(alloc: Global, lists: &[Vec<usize>], node: usize) -> Result<bool, AllocError>
     requires { node < length lists.now }
     ensures { IfOk result (λ leads. IsTrue leads ↔ Leads (graph lists.now) node node) }
@@ -74,7 +74,7 @@ fn leads_back(alloc: Global, lists: &[Vec<usize>], node: usize) -> Result<bool, 
     Ok(traversal.found[node])
 }
 
-/// Returns for each node whether it lies on a cycle.
+/// Returns, for each node, whether it lies on a cycle.
 ///
 /// # Errors
 ///

@@ -34,8 +34,8 @@ fn copy_given<'s>(types: &GivenTypes<'s>, text: &str) -> Result<Option<TypeExpr<
     Ok(Some(TypeExpr { part }))
 }
 
-/// Adds `name`, a declared name, to `front`, and returns a copy of the type given to it. Returns
-/// `None` if the name was in `front`, or has no type.
+/// Adds the declared name `name` to `front`, and returns a copy of the type given to the name.
+/// Returns `None` if the name was already in `front`, or has no type.
 fn copy_concrete<'s>(
     front: &mut HashSet<&'s str>,
     types: &GivenTypes<'s>,
@@ -50,7 +50,7 @@ fn copy_concrete<'s>(
     copy_given(types, name.text)
 }
 
-/// Reports that `name`, a declared name, has no type.
+/// Reports that the declared name `name` has no type.
 fn report_missing(name: Ident<'_>, errors: &mut Errors) -> Result<(), Memory>
     ensures { OnOk result (errors.new ≡ errors.old ++ no_concrete_type (named_of name.entry) ∷ []) }
 {
@@ -63,7 +63,7 @@ fn report_missing(name: Ident<'_>, errors: &mut Errors) -> Result<(), Memory>
     )
 }
 
-/// Appends the type `found` to `types`. If it is `None`, reports that `name` has no type.
+/// Appends the type in `found` to `types`. If `found` is `None`, reports that `name` has no type.
 fn add_or_report<'s>(
     found: Option<TypeExpr<'s>>,
     name: Ident<'s>,
@@ -82,8 +82,8 @@ fn add_or_report<'s>(
     Ok(())
 }
 
-/// Returns copies of the types of declared names in order, and reports each name that has none. A
-/// second declaration of a name counts as one without a type.
+/// Returns copies of the types given to the declared names, in order, and reports each name without
+/// a type. A second declaration of a name counts as a name without a type.
 fn copy_types<'s>(
     names: &[Ident<'s>],
     types: &GivenTypes<'s>,
@@ -104,8 +104,8 @@ fn copy_types<'s>(
     Ok(copies)
 }
 
-/// Returns the generic arguments: `'s` if `lifetime` is `true`, and `types`. Returns `None` if
-/// there are none.
+/// Returns the generic arguments: `'s` if `lifetime` is `true`, and then `types`. Returns `None` if
+/// there are no arguments.
 fn bracketed<'s>(lifetime: bool, types: Vec<TypeExpr<'s>>) -> Option<Generics<'s>>
     ensures { option_map generics_of result ≡
         between_brackets lifetime (map type_tree types.entry.items) }
@@ -135,9 +135,9 @@ impl<'s> TypeParams<'s> {
 
     /// Returns the generic arguments that follow the enum's name: `'s` if a lifetime is declared,
     /// and then the types given to the declared parameters, in order of declaration. Returns `None`
-    /// if there are none. Reports a parameter without a type as `NoConcreteType` at its
-    /// declaration, and leaves it out. A second declaration of a name counts as a parameter without
-    /// a type.
+    /// if there are no arguments. For a parameter without a type, reports `NoConcreteType` at its
+    /// declaration and omits the parameter. A second declaration of a name counts as a parameter
+    /// without a type.
     ///
     /// # Errors
     ///

@@ -1,4 +1,4 @@
-//! Replaces parameters in written types, and finds the names that are not replaced in them.
+//! Replaces parameters in written types, and finds the names of parameters that are not replaced.
 //! `logos_leaf` calls `get_type` for each field, once all types are given.
 
 ghost use Rattle.std.specs.Prelude.{◌≡◌, ◌++◌, ◌∷◌, [], map, IfOk, OnOk, OnErr};
@@ -47,7 +47,8 @@ fn leave_written<'s>(
 
 impl<'s> TypeParams<'s> {
     /// Returns the name of each parameter from which a chain of types leads back to this parameter.
-    /// `get_type` does not replace these names. This takes time linear in the sizes of all types.
+    /// `get_type` does not replace these names. This takes time linear in the total size of the
+    /// types.
     ///
     /// # Errors
     ///
@@ -63,9 +64,10 @@ impl<'s> TypeParams<'s> {
         Ok(held)
     }
 
-    /// Returns `written`, a type, with its declared parameters replaced by the types given to them,
-    /// except for the names in `held`, and with its lifetimes set to `'s`. If too many types are
-    /// nested in the result, reports `LimitTypeNesting` at `span` and returns the type as written.
+    /// Returns the type `written` with its declared parameters replaced by the types given to them,
+    /// and with its lifetimes set to `'s`. The names in `held` are not replaced. If too many types
+    /// are nested in the result, reports `LimitTypeNesting` at `span` and returns the type as
+    /// written.
     ///
     /// # Errors
     ///

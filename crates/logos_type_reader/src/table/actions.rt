@@ -1,5 +1,5 @@
-//! Turns an action into the next step, with the tokens that it takes. `table` calls it for each
-//! action.
+//! Turns an action into the next step, which contains the tokens that the action takes. `table`
+//! calls `act` for each action.
 
 ghost use Rattle.std.specs.Prelude.{◌≡◌, Ok};
 ghost use Rattle.logos_type_reader.specs.Views.{tokens_of, inside_of, sign_of, opens, closes, keeps, to, outside_of, spot_of, IsFirst, IsStep, lead_sign, after_lead, opens_first, opens_type, acts, begun};
@@ -44,9 +44,9 @@ fn after_lead<'t, 's>(lead: Prefix, run: Tokens<'t, 's>) -> Tokens<'t, 's>
     }
 }
 
-/// Returns the step that opens `group` and continues inside it at `stage`. `rest` is the tokens
-/// after the group. Returns a mismatch at the group if a group is already open, so that `outside`
-/// is not `None`.
+/// Returns the step that opens `group` and continues inside the group at `stage`. `rest` consists
+/// of the tokens after the group. Returns a mismatch at the group if `outside` is not `None`,
+/// because a group is then already open.
 fn open<'t, 's>(
     group: Group<'t, 's>,
     stage: Stage,
@@ -67,8 +67,9 @@ fn open<'t, 's>(
     Ok(TypeStep::Take(TypeToken::Open(group.delimiter), inner))
 }
 
-/// Returns the step that opens the group at the start of the run, or a mismatch if no group comes
-/// first or a group is already open.
+/// Returns the step that opens the group at the start of the run and continues inside the group at
+/// `stage`. Returns a mismatch if the run does not begin with a group, or if a group is already
+/// open.
 fn open_first<'t, 's>(
     stage: Stage,
     run: Tokens<'t, 's>,
@@ -158,8 +159,8 @@ pub(super) fn act<'t, 's>(
     }
 }
 
-/// Returns the beginning of a type that begins with a group: its delimiter, and the spot inside it
-/// at `stage`. Returns a mismatch if no group comes first.
+/// Returns the beginning of a type that begins with a group: the opening delimiter, and the spot
+/// inside the group at `stage`. Returns a mismatch if `run` does not begin with a group.
 fn open_type<'t, 's>(stage: Stage, run: Tokens<'t, 's>) -> Result<Beginning<'t, 's>, StepFault>
     ensures { IsFirst result (opens_type stage (tokens_of run.entry)) }
 {
@@ -178,7 +179,9 @@ fn open_type<'t, 's>(stage: Stage, run: Tokens<'t, 's>) -> Result<Beginning<'t, 
     })
 }
 
-/// Returns the beginning `start` of a type with its first token and the spot after it.
+/// Returns the beginning of the type at the start of `run`, according to `start`: the first token
+/// and the spot after this token. Returns a mismatch if `start` opens a group and `run` does not
+/// begin with a group.
 pub(super) fn begin_by<'t, 's>(
     start: FirstEntry,
     run: Tokens<'t, 's>,

@@ -1,4 +1,5 @@
-//! The actions in function types. `table` calls the function of each stage.
+//! Determines the actions at the stages inside function types. `table` calls the function for the
+//! stage of a spot.
 
 ghost use Rattle.logos_type_reader.specs.Views.{tokens_of, linked_move, unsafe_move, qualified_move, extern_move, function_move, taken_value, taken_move, typed_move, one_taken_move, variadic_move, variadic_end_move, outside_of, spot_of, IsAction};
 
@@ -34,8 +35,8 @@ pub(super) fn unsafe_step(at: &Spot<'_, '_>) -> Next
     }
 }
 
-/// Returns the action after the `for<..>` of a function, or a mismatch if neither `unsafe`,
-/// `extern` nor `fn` follows.
+/// Returns the action after the `for<..>` of a function type, or a mismatch if none of `unsafe`,
+/// `extern` and `fn` follows.
 pub(super) fn qualified_step(at: &Spot<'_, '_>) -> Next
     ensures { IsAction result (spot_of at.now)
         (qualified_move (tokens_of at.now.run) (outside_of at.now.outside)) }
@@ -109,8 +110,8 @@ pub(super) fn typed_step(at: &Spot<'_, '_>) -> Next
     }
 }
 
-/// Returns the action after one parameter of a function, or a mismatch if neither a comma nor the
-/// end of the parameters follows.
+/// Returns the action after a parameter of a function, or a mismatch if neither a comma nor the end
+/// of the parameters follows.
 pub(super) fn one_taken_step(at: &Spot<'_, '_>) -> Next
     ensures { IsAction result (spot_of at.now)
         (one_taken_move (tokens_of at.now.run) (outside_of at.now.outside)) }

@@ -1,5 +1,5 @@
-//! The actions in references, pointers, groups, and `<T as P>`. `table` calls the function of each
-//! stage.
+//! Determines the actions at the stages inside references, pointers, groups, and `<T as P>`.
+//! `table` calls the function for the stage of a spot.
 
 ghost use Rattle.logos_type_reader.specs.Views.{tokens_of, referent_move, pointer_move, list_move, list_end_move, element_end_move, length_move, self_end_move, self_trait_end_move, self_closed_move, outside_of, spot_of, IsAction};
 
@@ -7,7 +7,7 @@ use crate::table::stage::{FrontToken, Next, PathKind, Prefix, Spot, Stage, Table
 use crate::table::tokens::{begins_colons, begins_word, look, mismatch};
 use logos_token::token::Delimiter;
 
-/// Returns the action after `&` and its lifetime, if it has one.
+/// Returns the action after the `&` of a reference and its optional lifetime.
 pub(super) fn referent_step(at: &Spot<'_, '_>) -> Next
     ensures { IsAction result (spot_of at.now)
         (referent_move (tokens_of at.now.run) (outside_of at.now.outside)) }

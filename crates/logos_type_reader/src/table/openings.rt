@@ -1,5 +1,5 @@
-//! The beginnings of types. The reader of types calls `begin` for each type that is more than a
-//! name.
+//! Finds the beginnings of types. The reader of types calls `begin` for each type that is more than
+//! a name.
 
 ghost use Rattle.std.specs.Prelude.{◌≡◌, Some, None, MatchOption};
 ghost use Rattle.logos_type_reader.specs.Views.{rest_of, tokens_of, first_span, reference_first, reference_lifetime_first, word_stage, word_first, mark_first, begin, is_reserved, name_of, IsFirst, first_text, IsStart};
@@ -34,7 +34,8 @@ fn reference_lifetime(run: Tokens<'_, '_>) -> First
     }
 }
 
-/// Returns the stage after the word at the start of a type.
+/// Returns the stage after the word `text` at the start of a type. `+` joins bounds only if `plus`
+/// is `true`.
 fn word_stage(plus: bool, text: &str) -> Stage
     ensures { result ≡ word_stage plus text.now }
 {
@@ -56,7 +57,8 @@ fn word_stage(plus: bool, text: &str) -> Stage
     Stage::Named(PathKind::Plain)
 }
 
-/// Returns the beginning of a type that begins with a word, or the fault that `_` is unsupported.
+/// Returns the beginning of a type that begins with a word, or a fault if the word is `_`, which is
+/// unsupported. `+` joins bounds only if `plus` is `true`.
 fn word_first(plus: bool, run: Tokens<'_, '_>) -> First
     ensures { IsStart result (tokens_of run.entry)
         (word_first plus (first_text (tokens_of run.entry)) (first_span (tokens_of run.entry))
@@ -69,8 +71,8 @@ fn word_first(plus: bool, run: Tokens<'_, '_>) -> First
     Ok(FirstEntry::Lead(text == "impl", Prefix::Word, word_stage(plus, text)))
 }
 
-/// Returns the beginning of a type that begins with the punctuation `mark`, or the fault that it is
-/// unsupported or begins no type.
+/// Returns the beginning of a type that begins with the punctuation `mark`, or a fault if `mark`
+/// begins an unsupported type or no type at all.
 fn mark_first(mark: char, run: Tokens<'_, '_>) -> First
     ensures { IsStart result (tokens_of run.entry)
         (mark_first mark (first_span (tokens_of run.entry)) (tokens_of run.entry)
@@ -89,7 +91,7 @@ fn mark_first(mark: char, run: Tokens<'_, '_>) -> First
 }
 
 /// Returns the beginning of the type at the start of the run, without its tokens, or the fault if
-/// no supported type begins.
+/// no supported type begins. `+` joins bounds only if `plus` is `true`.
 #[tactic(auto, unfolding(crate::specs::Table::begin))]
 fn start_at(plus: bool, run: Tokens<'_, '_>) -> First
     ensures { IsStart result (tokens_of run.entry) (begin plus (tokens_of run.entry)) }
@@ -103,8 +105,8 @@ fn start_at(plus: bool, run: Tokens<'_, '_>) -> First
     }
 }
 
-/// Returns the first token of the type at the start of the run and the spot after it, or the fault
-/// if no supported type begins. `plus` is whether `+` joins bounds.
+/// Returns the first token of the type at the start of the run and the spot after this token, or
+/// the fault if no supported type begins. `+` joins bounds only if `plus` is `true`.
 pub(crate) fn begin<'t, 's>(plus: bool, run: Tokens<'t, 's>) -> Result<Beginning<'t, 's>, StepFault>
     ensures { IsFirst result (begin plus (tokens_of run.entry)) }
 {
@@ -114,7 +116,7 @@ pub(crate) fn begin<'t, 's>(plus: bool, run: Tokens<'t, 's>) -> Result<Beginning
     }
 }
 
-/// Returns whether a word is reserved, so that it is not the name of a type.
+/// Returns whether the word `text` is reserved and cannot be the name of a type.
 fn is_reserved(text: &str) -> bool
     ensures { result ≡ is_reserved text.now }
 {
@@ -122,8 +124,8 @@ fn is_reserved(text: &str) -> bool
         | (((text == "fn") | (text == "unsafe")) | (text == "extern"))
 }
 
-/// Returns the name and the tokens after it if the type at the start of the tokens is exactly a
-/// name, and `None` otherwise.
+/// Returns the name at the start of `tokens` and the tokens after it if the type that begins there
+/// is only a name, and `None` otherwise.
 pub(crate) fn read_name<'t, 's>(tokens: Tokens<'t, 's>) -> Option<(&'s str, Tokens<'t, 's>)>
     ensures { MatchOption result (name_of (tokens_of tokens.entry) ≡ None)
         (λ read. (name_of (tokens_of tokens.entry) ≡ Some read.0.now)

@@ -1,4 +1,5 @@
-//! The actions in paths and in their arguments. `table` calls the function of each stage.
+//! Determines the actions at the stages inside paths and their arguments. `table` calls the
+//! function for the stage of a spot.
 
 ghost use Rattle.std.specs.Prelude.{◌≡◌};
 ghost use Rattle.logos_type_reader.specs.Views.{rest_of, tokens_of, argued, name_end, segments_move, named_move, macro_move, output_move, inputs_move, input_end_move, colons_move, lifetime_move, argument_word, arguments_move, braced_move, equals_move, constrained_move, argument_end_move, path_move, outside_of, spot_of, first_text, IsAction};
@@ -9,7 +10,7 @@ use crate::table::tokens::{
 };
 use logos_token::token::Delimiter;
 
-/// Returns the kind that a path of the kind `kind` has after it has had arguments.
+/// Returns the kind that a path of the kind `kind` has after its first arguments.
 fn argued(kind: PathKind) -> PathKind
     ensures { result ≡ argued kind }
 {
@@ -72,7 +73,8 @@ pub(super) fn macro_step(at: &Spot<'_, '_>) -> Next
     }
 }
 
-/// Returns the action after the parentheses of a path or of a function: `->`, or the end.
+/// Returns the action after the parentheses of a path or of a function: `->`, or the end of the
+/// path or function.
 pub(super) fn output_step(at: &Spot<'_, '_>) -> Next
     ensures { IsAction result (spot_of at.now)
         (output_move (tokens_of at.now.run) (outside_of at.now.outside)) }
@@ -83,7 +85,8 @@ pub(super) fn output_step(at: &Spot<'_, '_>) -> Next
     Ok(TableEntry::End)
 }
 
-/// Returns the action in the parentheses of a path where a type is allowed: their end, or a type.
+/// Returns the action in the parentheses of a path where a type is allowed: the end of the group,
+/// or a type.
 pub(super) fn inputs_step(at: &Spot<'_, '_>) -> Next
     ensures { IsAction result (spot_of at.now)
         (inputs_move (tokens_of at.now.run) (outside_of at.now.outside)) }
@@ -107,8 +110,8 @@ pub(super) fn input_end_step(at: &Spot<'_, '_>) -> Next
     }
 }
 
-/// Returns the action after `::`, or a mismatch if neither a name nor, if `arguments`, a `<`
-/// follows.
+/// Returns the action after `::`, or a mismatch if neither a name nor `<` follows. `<` is allowed
+/// only if `arguments` is `true`.
 pub(super) fn colons_step(kind: PathKind, arguments: bool, at: &Spot<'_, '_>) -> Next
     ensures { IsAction result (spot_of at.now)
         (colons_move kind arguments (tokens_of at.now.run) (outside_of at.now.outside)) }
@@ -136,7 +139,8 @@ fn lifetime_step(kind: PathKind, at: &Spot<'_, '_>) -> Next
     }
 }
 
-/// Returns the action at a name among arguments: at the name before `=` or `:`, or at a type.
+/// Returns the action at a word among the arguments of a path. The word is the name before `=` or
+/// `:`, or it begins a type.
 fn argument_word(kind: PathKind, at: &Spot<'_, '_>) -> Next
     ensures { IsAction result (spot_of at.now)
         (argument_word kind (first_text (tokens_of at.now.run)) (rest_of (tokens_of at.now.run))
@@ -169,7 +173,8 @@ pub(super) fn arguments_step(kind: PathKind, at: &Spot<'_, '_>) -> Next
     }
 }
 
-/// Returns the action in braces that are an argument: their tokens, or their end.
+/// Returns the action inside the braces of an argument: the tokens between the braces, or the end
+/// of the group.
 pub(super) fn braced_step(kind: PathKind, at: &Spot<'_, '_>) -> Next
     ensures { IsAction result (spot_of at.now)
         (braced_move kind (tokens_of at.now.run) (outside_of at.now.outside)) }
@@ -224,8 +229,8 @@ pub(super) fn argument_end_step(kind: PathKind, at: &Spot<'_, '_>) -> Next
     }
 }
 
-/// Returns the action where a path must begin, or a mismatch if neither a name nor `::` comes
-/// first. `next` is the stage after the path.
+/// Returns the action where a path must begin, or a mismatch if neither a name nor `::` follows.
+/// `next` is the stage after the path.
 pub(super) fn path_step(kind: PathKind, next: Stage, at: &Spot<'_, '_>) -> Next
     ensures { IsAction result (spot_of at.now) (path_move kind next (tokens_of at.now.run)) }
 {

@@ -1,5 +1,5 @@
-//! The stages inside a type, and the actions and steps that can follow at a stage. All modules of
-//! `table` and the reader of types use them.
+//! The stages inside a type, and the actions and steps that can follow a stage. All modules of
+//! `table` and the reader of types use these types.
 
 use logos_token::token::{Delimiter, Spacing, Span, Tokens};
 use logos_type::TypeToken;
@@ -7,21 +7,21 @@ use logos_type::TypeToken;
 /// The kind of a path.
 #[derive(Clone, Copy)]
 pub(crate) enum PathKind {
-    /// A type that has had no arguments yet, so that it can still be the name of a macro.
+    /// A type without arguments so far. Its path can still be the name of a macro.
     Plain,
     /// A type, or the trait after `as`.
     OfType,
-    /// A bound of a `dyn` type.
+    /// The trait of a bound.
     OfBound,
 }
 
 /// The kind of a point at which a bound is expected.
 #[derive(Clone, Copy)]
 pub(crate) enum BoundKind {
-    /// In a list. `+` can join another bound if the flag is `true`.
+    /// In a list of bounds. `+` can join another bound if the flag is `true`.
     Listed(bool),
-    /// In the parentheses of a bound in a list. After them `+` can join another bound if the flag
-    /// is `true`.
+    /// In the parentheses of a bound in a list. After the parentheses, `+` can join another bound
+    /// if the flag is `true`.
     Enclosed(bool),
 }
 
@@ -43,7 +43,7 @@ pub(crate) enum Stage {
     Segments(PathKind),
     /// After `::`. Arguments can follow if the flag is `true`.
     Colons(PathKind, bool),
-    /// After `<`, or `,` among arguments.
+    /// After `<`, or after `,` among arguments.
     Arguments(PathKind),
     /// Between a name and `=` among arguments.
     Equals(PathKind),
@@ -51,13 +51,13 @@ pub(crate) enum Stage {
     Value(PathKind),
     /// Between a name and `:` among arguments.
     Constrained(PathKind),
-    /// In the braces that are an argument.
+    /// Inside the braces of an argument.
     Braced(PathKind),
     /// After an argument.
     ArgumentEnd(PathKind),
     /// After the name of a macro and its `!`.
     Macro,
-    /// After `(`, or `,`, in the parentheses of a path.
+    /// After `(` or `,` in the parentheses of a path.
     Inputs,
     /// After a type in the parentheses of a path.
     InputEnd,
@@ -73,13 +73,13 @@ pub(crate) enum Stage {
     SelfTraitEnd,
     /// After the `>` that ends `<T as P>`.
     SelfClosed,
-    /// After `&` and its lifetime, if it has one.
+    /// After `&` and its optional lifetime.
     Referent,
     /// After the `*` of a pointer.
     Pointer,
     /// After `mut`, `const` or `->`.
     Target,
-    /// After `(`, or `,` in parentheses.
+    /// After `(`, or after `,` in parentheses.
     List,
     /// After a type in parentheses.
     ListEnd,
@@ -93,7 +93,8 @@ pub(crate) enum Stage {
     LengthEnd,
     /// Where a bound is expected. `+` can join another bound if the flag is `true`.
     Bound(bool),
-    /// After the `(` of a bound. After its `)` `+` can join another bound if the flag is `true`.
+    /// After the `(` of a bound. After the matching `)`, `+` can join another bound if the flag is
+    /// `true`.
     Question(bool),
     /// Where the path of a bound is expected, with an optional `for<..>` before it.
     Trait(BoundKind),
@@ -103,12 +104,12 @@ pub(crate) enum Stage {
     BoundEnd(bool),
     /// After the `+` that follows a bound.
     Further,
-    /// After a path in the parentheses of a bound. After them `+` can join another bound if the
-    /// flag is `true`.
+    /// After a path in the parentheses of a bound. After the parentheses, `+` can join another
+    /// bound if the flag is `true`.
     EnclosedEnd(bool),
     /// After `for`.
     For(Binder),
-    /// After the `<` that follows `for`, or after `,`.
+    /// After the `<` that follows `for`, or after `,` in `for<..>`.
     ForList(Binder),
     /// After a lifetime in `for<..>`.
     ForEnd(Binder),
@@ -122,13 +123,13 @@ pub(crate) enum Stage {
     Linked,
     /// After `fn`.
     Function,
-    /// After `(`, or `,`, among the parameters of a function.
+    /// After `(` or `,` in the parameters of a function.
     Taken,
-    /// Between the name of a parameter of a function and `:`.
+    /// Between the name of a function's parameter and `:`.
     Typed,
     /// After the `:` that follows the name of a parameter.
     TypedValue,
-    /// After one parameter of a function.
+    /// After a parameter of a function.
     OneTaken,
     /// After the `...` among the parameters of a function.
     Variadic,
@@ -139,8 +140,8 @@ pub(crate) enum Stage {
 /// The tokens after the open group, if a group is open.
 pub(crate) type Outside<'t, 's> = Option<Tokens<'t, 's>>;
 
-/// A spot inside a type: its stage, the tokens after it, and, if these are inside a group, the
-/// tokens after the group.
+/// A spot inside a type: its stage, the tokens after the spot, and, if the spot is inside a group,
+/// the tokens after the group.
 #[derive(Clone, Copy)]
 pub(crate) struct Spot<'t, 's> {
     pub stage: Stage,
@@ -148,10 +149,10 @@ pub(crate) struct Spot<'t, 's> {
     pub outside: Outside<'t, 's>,
 }
 
-/// The next step at a spot, with the tokens that it takes.
+/// The next step at a spot, with the tokens that the step takes.
 #[derive(Clone, Copy)]
 pub(crate) enum TypeStep<'t, 's> {
-    /// Ends the construct that was begun.
+    /// Ends the current construct.
     End,
     /// Takes this token and continues at the spot.
     Take(TypeToken<'s>, Spot<'t, 's>),
@@ -161,21 +162,21 @@ pub(crate) enum TypeStep<'t, 's> {
     Need(bool, Stage),
     /// Reads a type that is never replaced and continues at this stage.
     KeepType(Stage),
-    /// Takes these tokens without reading types in them, and continues at the spot.
+    /// Takes these tokens without reading types in them and continues at the spot.
     Keep(Tokens<'t, 's>, Spot<'t, 's>),
-    /// Takes this token, with which a path or bounds begin, reads the path or bounds from the spot
-    /// on, and continues at the stage.
+    /// Takes this token, which begins a path or bounds. Reads the rest of the path or bounds from
+    /// the spot on, and continues at the stage.
     Nest(TypeToken<'s>, Spot<'t, 's>, Stage),
 }
 
 /// The class of the first token of a run.
 #[derive(Clone, Copy)]
 pub(crate) enum FrontToken {
-    /// None: the run has no tokens.
+    /// No token: the run is empty.
     Nothing,
     /// A name.
     Word,
-    /// This character of punctuation, and its spacing.
+    /// A token of punctuation with this character and this spacing.
     Mark(char, Spacing),
     /// A literal.
     Literal,
@@ -190,7 +191,7 @@ pub(crate) enum FrontToken {
 pub(crate) enum Prefix {
     /// A name.
     Word,
-    /// A token that is this character of punctuation.
+    /// A token of punctuation with this character.
     Mark(char),
     /// A literal.
     Literal,
@@ -204,42 +205,44 @@ pub(crate) enum Prefix {
     Reference,
     /// An `&` and the two tokens of a lifetime.
     ReferenceLifetime,
-    /// `'` and a name, among the angle arguments of a path that is a type.
+    /// The `'` and the name of a lifetime among the angle-bracketed arguments of a path that is a
+    /// type.
     Lifetime,
-    /// `'` and a name elsewhere.
+    /// The `'` and the name of any other lifetime.
     OtherLifetime,
     /// A group with these delimiters.
     Group(Delimiter),
 }
 
-/// The next action at a spot: a step without its tokens, so that it is equal for all runs that
-/// begin alike.
+/// The next action at a spot. An action is a step without its tokens, so it is equal for all runs
+/// that begin alike.
 #[derive(Clone, Copy)]
 pub(crate) enum TableEntry {
-    /// End the construct that was begun.
+    /// Ends the current construct.
     End,
-    /// Take these tokens and continue after them at this stage.
+    /// Takes these tokens and continues after them at this stage.
     Take(Prefix, Stage),
-    /// Take these tokens, which occur only in unsupported types, and continue after them at this
+    /// Takes these tokens, which occur only in unsupported types, and continues after them at this
     /// stage.
     Bar(Prefix, Stage),
-    /// Read a type and continue after it at this stage. `+` can join bounds if the flag is `true`.
+    /// Reads a type and continues after it at this stage. `+` can join bounds if the flag is
+    /// `true`.
     Need(bool, Stage),
-    /// Read a type that is never replaced and continue after it at this stage.
+    /// Reads a type that is never replaced and continues after it at this stage.
     KeepType(Stage),
-    /// Take all tokens without reading types in them and continue at this stage.
+    /// Takes all tokens without reading types in them and continues at this stage.
     Keep(Stage),
-    /// Take these tokens, read the construct that begins with them from the first stage on, and
-    /// continue after it at the second stage.
+    /// Takes these tokens, which begin a path or bounds. Reads the rest of the path or bounds from
+    /// the first stage on, and continues at the second stage.
     Nest(Prefix, Stage, Stage),
-    /// Open the group and continue inside it at this stage.
+    /// Opens the group and continues inside it at this stage.
     Open(Stage),
-    /// Close the group and continue after it at this stage.
+    /// Closes the group and continues after it at this stage.
     Close(Delimiter, Stage),
 }
 
-/// The beginning of a type: its first token, whether that token occurs only in unsupported types,
-/// and the spot after it.
+/// The beginning of a type: its first token, and the spot after this token. `barred` is `true` if
+/// the token occurs only in unsupported types.
 #[derive(Clone, Copy)]
 pub(crate) struct Beginning<'t, 's> {
     pub barred: bool,
@@ -251,7 +254,7 @@ pub(crate) struct Beginning<'t, 's> {
 #[derive(Clone, Copy)]
 pub(crate) enum FirstEntry {
     /// A type that begins with these tokens and continues after them at this stage. The flag is
-    /// whether the tokens occur only in unsupported types.
+    /// `true` if the tokens occur only in unsupported types.
     Lead(bool, Prefix, Stage),
     /// A type that begins with a group and continues inside it at this stage.
     Open(Stage),
@@ -260,9 +263,9 @@ pub(crate) enum FirstEntry {
 /// The reason why no step fits.
 #[derive(Clone, Copy)]
 pub(crate) enum StepFault {
-    /// An unsupported type, at this span.
+    /// An unsupported type at this span.
     Unsupported(Span),
-    /// A token that does not fit, at this span, which is `0..0` at the end of the tokens.
+    /// A token at this span that does not fit. The span is `0..0` if no tokens are left.
     Mismatch(Span),
 }
 

@@ -1,4 +1,5 @@
-//! Classifies the first tokens of a run. The functions of the grammar's stages call it.
+//! Classifies the first tokens of a run. The functions for the grammar's stages call these
+//! functions.
 
 ghost use Rattle.std.specs.Prelude.{◌≡◌};
 ghost use Rattle.logos_type_reader.specs.Views.{rest_of, tokens_of, mismatches, first_span, begins_colons, begins_mark, begins_arrow, begins_dots, begins_parenthesis, begins_bound, typing, continues, spot_of, Looks, first_text, begins_word, IsAction};
@@ -31,7 +32,7 @@ pub(super) fn first_text<'s>(run: Tokens<'_, 's>) -> &'s str
     }
 }
 
-/// Returns the span of the first token, or `0..0` if there is none.
+/// Returns the span of the first token, or `0..0` if the run is empty.
 pub(super) fn first_span(run: Tokens<'_, '_>) -> Span
     ensures { result ≡ first_span (tokens_of run.entry) }
 {
@@ -120,7 +121,8 @@ pub(super) fn is_typing(run: Tokens<'_, '_>) -> bool
     begins_mark(':', run) & !begins_colons(run)
 }
 
-/// Returns whether the run, which follows a name, continues a path: with `<`, `::` or parentheses.
+/// Returns whether a run after a name continues a path. Such a run begins with `<`, `::` or
+/// parentheses.
 pub(super) fn continues(run: Tokens<'_, '_>) -> bool
     ensures { result ≡ continues (tokens_of run.entry) }
 {
@@ -137,14 +139,14 @@ pub(super) fn begins_bound(run: Tokens<'_, '_>) -> bool
     begins_mark('\'', run) | begins_mark('?', run) | begins_colons(run) | begins_parenthesis(run)
 }
 
-/// Returns a mismatch at the first token of the spot, or at `0..0` if there is none.
+/// Returns a mismatch at the first token after the spot, or at `0..0` if there is no such token.
 pub(super) fn mismatch(at: &Spot<'_, '_>) -> Next
     ensures { IsAction result (spot_of at.now) (mismatches (tokens_of at.now.run)) }
 {
     Err(StepFault::Mismatch(first_span(at.run)))
 }
 
-/// Returns a mismatch at the second token of the spot, or at `0..0` if there is none.
+/// Returns a mismatch at the second token after the spot, or at `0..0` if there is no such token.
 pub(super) fn mismatch_after(at: &Spot<'_, '_>) -> Next
     ensures { IsAction result (spot_of at.now) (mismatches (rest_of (tokens_of at.now.run))) }
 {

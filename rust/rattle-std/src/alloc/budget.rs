@@ -1,41 +1,42 @@
-//! The budget of memory: the number of bytes that may be in use.
+//! The memory budget: the maximum number of bytes in use.
 //!
-//! Programs and macros that read untrusted input set it. An allocation that would exceed it fails
-//! as if memory ran out. The capacity of everything that this crate allocates is counted; the
-//! overhead of the system's allocator is not.
+//! Programs and macros that read untrusted input set the budget. An allocation that would exceed
+//! the budget fails as if memory ran out. The budget counts the capacity of everything that this
+//! crate allocates, but not the overhead of the system's allocator.
 
 use super::AllocError;
 use core::fmt;
 use core::sync::atomic::{AtomicUsize, Ordering::Relaxed};
 
-/// The budget in bytes that programs set if the variable `LOGOS_MEMORY` names no other one: 1 GiB.
+/// The default budget of programs in bytes: 1 GiB. The variable `LOGOS_MEMORY` overrides this
+/// default.
 pub const DEFAULT_BUDGET: usize = 1 << 30;
 
-/// The name of the environment variable that names another budget.
+/// The name of the environment variable that overrides the default budget.
 const VARIABLE: &str = "LOGOS_MEMORY";
 
 /// The maximum number of bytes in use. `usize::MAX` means that there is no budget.
 static BUDGET: AtomicUsize = AtomicUsize::new(usize::MAX);
 
-/// The number of bytes in use that were claimed while there was a budget, less those that were
-/// released.
+/// The number of bytes that were claimed while there was a budget, minus the number of bytes that
+/// were released.
 static IN_USE: AtomicUsize = AtomicUsize::new(0);
 
-/// Sets the maximum number of bytes in use, or removes the budget if `bytes` is `None`. At the
-/// start of the process there is no budget.
+/// Sets the maximum number of bytes in use, or removes the budget if `bytes` is `None`.
 ///
-/// Earlier allocations are not counted, so programs call this function first. The setting applies
-/// to the whole process.
+/// The setting applies to the whole process, which starts without a budget. Earlier allocations are
+/// not counted, so programs call this function first.
 pub fn set_budget(bytes: Option<usize>) {
     BUDGET.store(bytes.unwrap_or(usize::MAX), Relaxed);
 }
 
-/// Sets the budget that the variable `LOGOS_MEMORY` names, or [`DEFAULT_BUDGET`] if it is not set.
+/// Sets the budget to the value of the variable `LOGOS_MEMORY`, or to [`DEFAULT_BUDGET`] if the
+/// variable is not set.
 ///
 /// # Errors
 ///
-/// Returns `BudgetError` if the value of the variable is not a number of bytes. The budget is
-/// [`DEFAULT_BUDGET`] then.
+/// Returns `BudgetError` if the value of the variable is not a number of bytes. In this case, the
+/// budget is [`DEFAULT_BUDGET`].
 pub fn set_budget_of_program() -> Result<(), BudgetError> {
     set_budget(Some(DEFAULT_BUDGET));
     if let Some(text) = std::env::var_os(VARIABLE) {
@@ -45,8 +46,8 @@ pub fn set_budget_of_program() -> Result<(), BudgetError> {
     Ok(())
 }
 
-/// Returns the number of bytes that `text` names: digits, optionally followed by `M` for MiB or `G`
-/// for GiB. Returns `None` for any other text, or if the number overflows.
+/// Returns the number of bytes that `text` denotes: digits, optionally followed by `M` for MiB or
+/// `G` for GiB. Returns `None` for any other text, or if the number overflows.
 pub fn budget_of(text: &str) -> Option<usize> {
     let (digits, unit) = match text.as_bytes() {
         [.., b'M'] => (&text[..text.len() - 1], 1 << 20),
@@ -59,7 +60,7 @@ pub fn budget_of(text: &str) -> Option<usize> {
     digits.parse::<usize>().ok()?.checked_mul(unit)
 }
 
-/// The error that the value of the variable `LOGOS_MEMORY` is not a number of bytes.
+/// The error for a value of the variable `LOGOS_MEMORY` that is not a number of bytes.
 #[derive(Clone, Copy, Debug, PartialEq, Eq)]
 pub struct BudgetError;
 
@@ -71,12 +72,13 @@ impl fmt::Display for BudgetError {
 
 impl core::error::Error for BudgetError {}
 
-/// Counts bytes that are about to be allocated as in use, if there is a budget.
+/// Adds `bytes` to the number of bytes in use before the bytes are allocated. Does nothing if there
+/// is no budget.
 ///
 /// # Errors
 ///
-/// Returns `AllocError` if more bytes would be in use than the budget allows. The bytes are not
-/// counted then.
+/// Returns `AllocError` if the number of bytes in use would exceed the budget. In this case, the
+/// bytes are not counted.
 #[inline]
 pub(crate) fn claim(bytes: usize) -> Result<(), AllocError> {
     let budget = BUDGET.load(Relaxed);
@@ -93,7 +95,8 @@ pub(crate) fn claim(bytes: usize) -> Result<(), AllocError> {
     Ok(())
 }
 
-/// Counts bytes that were claimed as no longer in use, if there is a budget.
+/// Subtracts `bytes` from the number of bytes in use. The bytes must have been claimed. Does
+/// nothing if there is no budget.
 #[inline]
 pub(crate) fn release(bytes: usize) {
     if bytes != 0 && BUDGET.load(Relaxed) != usize::MAX {

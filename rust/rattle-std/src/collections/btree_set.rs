@@ -1,4 +1,4 @@
-//! A sorted set, whose growth may fail.
+//! A sorted set whose growth may fail.
 
 use crate::alloc::{AllocError, AllocFailed, Global};
 use crate::vec::Vec;
@@ -6,13 +6,13 @@ use core::borrow::Borrow;
 use core::iter::Flatten;
 use core::slice::Iter;
 
-/// The maximum number of values in a run. Inserting a value moves no more values than this.
+/// The maximum number of values in a run. Inserting a value moves at most `RUN` other values.
 const RUN: usize = 512;
 
 /// A sorted set of values.
 ///
-/// It is a sorted vector divided into runs, so that inserting a value moves few others. No run is
-/// empty.
+/// The values are in a sorted vector that is divided into runs, so inserting a value moves few
+/// other values. No run is empty.
 pub struct BTreeSet<T> {
     runs: Vec<Vec<T>>,
     len: usize,
@@ -27,8 +27,9 @@ impl<T: Ord> BTreeSet<T> {
         }
     }
 
-    /// Returns the index of the run that contains `value`, or into which it would be inserted: the
-    /// last run for a value greater than all others. Returns 0 if there are no runs.
+    /// Returns the index of the run that contains `value` or into which `value` would be inserted.
+    /// Returns the index of the last run if `value` is greater than all values of the set, and 0 if
+    /// there are no runs.
     fn run_of<Q: ?Sized + Ord>(&self, value: &Q) -> usize
     where
         T: Borrow<Q>,
@@ -38,12 +39,13 @@ impl<T: Ord> BTreeSet<T> {
         run.min(self.runs.len().saturating_sub(1))
     }
 
-    /// Adds `value` to the set, and returns whether it is new. A value that is not new is dropped.
+    /// Adds `value` to the set unless the set contains an equal value. Returns whether `value` was
+    /// added.
     ///
     /// # Errors
     ///
-    /// Returns `AllocFailed` with the value if memory is refused. The set has its former values
-    /// then.
+    /// Returns `AllocFailed` with the value if memory runs out. In this case, the values of the set
+    /// are unchanged.
     pub fn insert(&mut self, value: T) -> Result<bool, AllocFailed<T>> {
         let mut run = self.run_of(&value);
         if self.make_room(run).is_err() {
@@ -62,7 +64,8 @@ impl<T: Ord> BTreeSet<T> {
         }
     }
 
-    /// Adds a first run if there is none, or splits the run with the index `run` if it is full.
+    /// Adds a first run if there are no runs, or splits the run at the index `run` if this run is
+    /// full.
     fn make_room(&mut self, run: usize) -> Result<(), AllocError> {
         if self.runs.is_empty() {
             self.runs.push(Vec::new(Global))?;

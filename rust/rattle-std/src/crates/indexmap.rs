@@ -1,5 +1,5 @@
-//! Replaces the kit's `indexmap`: sets and maps whose entries have indices, which begin with 0 for
-//! the one that was added first.
+//! Replaces the kit's `indexmap`: sets and maps whose entries are numbered from 0 in the order in
+//! which they were added.
 
 mod folded;
 mod map;
@@ -13,7 +13,7 @@ use crate::vec::Vec;
 use core::hash::{Hash, Hasher};
 use folded::Folded;
 
-/// A list of entries, and a table of their indices by the hashes of their keys.
+/// A list of entries, and a table that maps the hash of an entry's key to the index of the entry.
 struct Entries<E> {
     list: Vec<E>,
     table: Table,
@@ -27,20 +27,20 @@ impl<E> Entries<E> {
         }
     }
 
-    /// Makes room for `additional` entries after those of the list.
+    /// Makes room for `additional` more entries.
     fn reserve(&mut self, additional: usize) -> Result<(), AllocError> {
         self.table.reserve(self.list.len(), additional)?;
         self.list.reserve(additional)
     }
 
-    /// Returns the index of the entry with the hash `hash` for which `is_it` holds, or `None` if
-    /// there is none.
+    /// Returns the index of the entry that has the hash `hash` and satisfies `is_it`, or `None` if
+    /// there is no such entry.
     #[inline]
     fn find(&self, hash: u32, is_it: impl Fn(&E) -> bool) -> Option<usize> {
         self.table.find(hash, |index| is_it(&self.list[index]))
     }
 
-    /// Adds an entry, whose key must be new, and returns its index. If memory is refused, returns
+    /// Appends an entry, whose key must be new, and returns its index. If memory runs out, returns
     /// the entry in the error, and changes nothing.
     #[inline]
     fn push(&mut self, hash: u32, entry: E) -> Result<usize, AllocFailed<E>> {
@@ -54,8 +54,8 @@ impl<E> Entries<E> {
     }
 }
 
-/// A slot of a table: the hash of an entry, and 1 plus the entry's index, which is 0 for an empty
-/// slot.
+/// A slot of a table: the hash of an entry, and the index of the entry plus 1. Both are 0 in an
+/// empty slot.
 #[derive(Clone, Copy)]
 struct Place {
     hash: u32,
@@ -64,12 +64,13 @@ struct Place {
 
 const EMPTY: Place = Place { hash: 0, entry: 0 };
 
-/// The indices of entries by their hashes, in slots. The number of slots is 0 or a power of two,
-/// and at most half of them are used. If the slot of a hash is used by another entry, the next slot
-/// is examined.
+/// A hash table of the indices of entries.
 ///
-/// The hashes differ between executions of a program. No result depends on them, since entries are
-/// only listed in the order of their indices.
+/// The number of slots is 0 or a power of two, and at most half of the slots are used. If another
+/// entry uses the slot of a hash, the following slots are examined in turn.
+///
+/// The hashes differ between executions of a program. No result depends on the hashes, because
+/// entries are listed only in the order of their indices.
 struct Table {
     places: Vec<Place>,
     nothing: Folded,
@@ -90,8 +91,8 @@ impl Table {
         hash.finish() as u32
     }
 
-    /// Returns the index of the entry with the hash `hash` for whose index `is_it` holds, or `None`
-    /// if there is none.
+    /// Returns the index of the entry that has the hash `hash` and whose index satisfies `is_it`,
+    /// or `None` if there is no such entry.
     #[inline]
     fn find<F: Fn(usize) -> bool>(&self, hash: u32, is_it: F) -> Option<usize> {
         let mask = self.places.len().wrapping_sub(1);
@@ -106,8 +107,7 @@ impl Table {
         None
     }
 
-    /// Stores the entry with the index `index` and the hash `hash` in a slot. There must be an
-    /// empty slot.
+    /// Stores the hash `hash` and the index `index` of an entry in an empty slot, which must exist.
     fn set(&mut self, hash: u32, index: usize) {
         let mask = self.places.len() - 1;
         let mut at = hash as usize & mask;
@@ -120,7 +120,7 @@ impl Table {
         };
     }
 
-    /// Makes room for `additional` entries after `len` ones.
+    /// Makes room for `additional` entries after the first `len` entries.
     #[inline]
     fn reserve(&mut self, len: usize, additional: usize) -> Result<(), AllocError> {
         let needed = len.checked_add(additional).ok_or(AllocError)?;
@@ -145,8 +145,8 @@ impl Table {
         Ok(())
     }
 
-    /// Removes the entry with the hash `hash` and the index `index`, which must be in the table.
-    /// Entries in later slots move back where their hash allows that.
+    /// Removes the entry with the hash `hash` and the index `index`. The entry must be in the
+    /// table. Moves entries in later slots back if their hashes allow the move.
     fn remove(&mut self, hash: u32, index: usize) {
         let mask = self.places.len() - 1;
         let mut hole = hash as usize & mask;
@@ -156,7 +156,8 @@ impl Table {
         self.close(hole);
     }
 
-    /// Empties the slot `hole`, and moves back the entries in later slots whose hash allows that.
+    /// Empties the slot at the index `hole`. Moves entries in later slots back if their hashes
+    /// allow the move.
     fn close(&mut self, mut hole: usize) {
         let mask = self.places.len() - 1;
         let mut at = (hole + 1) & mask;

@@ -1,6 +1,6 @@
-//! Replaces the kit's `itoa`: numbers in decimal.
+//! Replaces the kit's `itoa`: the conversion of numbers to decimal digits.
 
-/// The two digits of each number below 100.
+/// The two decimal digits of each number below 100.
 static PAIRS: [[u8; 2]; 100] = pairs();
 
 const fn pairs() -> [[u8; 2]; 100] {
@@ -13,8 +13,8 @@ const fn pairs() -> [[u8; 2]; 100] {
     pairs
 }
 
-/// Writes the decimal digits of `number` to the bytes of `buf` before the index `end`, and returns
-/// the index at which they begin. The other bytes stay unchanged.
+/// Writes the decimal digits of `number` to the bytes of `buf` that end at the index `end`. Returns
+/// the index of the first digit. The other bytes stay unchanged.
 ///
 /// # Panics
 ///
@@ -40,14 +40,14 @@ pub fn write_digits(number: u64, buf: &mut [u8], end: usize) -> usize {
     from
 }
 
-/// Returns the two digits of `number`, which is below 100.
+/// Returns the two decimal digits of `number`, which must be below 100.
 #[inline(always)]
 fn pair(number: u32) -> [u8; 2] {
     PAIRS[number as usize]
 }
 
-/// Writes the digits of `number`, which is below 10,000, to the last of four bytes, and returns the
-/// number of bytes before the digits.
+/// Writes the decimal digits of `number`, which must be below 10,000, to the last of four bytes.
+/// Returns the number of bytes before the digits.
 #[inline(always)]
 fn write_four(number: u32, [a, b, c, d]: [&mut u8; 4]) -> usize {
     if number < 100 {
@@ -57,8 +57,8 @@ fn write_four(number: u32, [a, b, c, d]: [&mut u8; 4]) -> usize {
     write_two(number / 100, [a, b])
 }
 
-/// Writes the digits of `number`, which is below 100, to the last of two bytes, and returns the
-/// number of bytes before the digits.
+/// Writes the decimal digits of `number`, which must be below 100, to the last of two bytes.
+/// Returns the number of bytes before the digits.
 #[inline(always)]
 fn write_two(number: u32, [a, b]: [&mut u8; 2]) -> usize {
     if number < 10 {
@@ -69,7 +69,7 @@ fn write_two(number: u32, [a, b]: [&mut u8; 2]) -> usize {
     0
 }
 
-/// Writes the digits of any number like `write_digits`, one digit at a time.
+/// Writes the decimal digits of `number` as `write_digits` does, but one digit at a time.
 #[cold]
 #[inline(never)]
 fn write_each(number: u64, buf: &mut [u8], end: usize) -> usize {

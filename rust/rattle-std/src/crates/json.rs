@@ -4,14 +4,15 @@ use crate::alloc::AllocError;
 use crate::crates::itoa::write_digits;
 use crate::vec::Vec;
 
-/// A writer of JSON, which appends to the bytes of a vector one token at a time.
+/// A writer of JSON that appends to a vector of bytes one token at a time.
 ///
 /// The writer adds the commas and the colons. The caller is responsible for the nesting. Each
-/// method returns `AllocError` if memory is refused, and has then written nothing of its token.
+/// method returns `AllocError` if memory runs out. In this case, the method writes no part of its
+/// token.
 #[derive(Debug)]
 pub struct Writer {
     out: Vec<u8>,
-    /// Whether the next value needs a comma before it.
+    /// Whether a comma has to precede the next value.
     after_value: bool,
 }
 
@@ -24,7 +25,7 @@ impl Writer {
         }
     }
 
-    /// Returns the bytes, with all that were written.
+    /// Returns the vector of bytes, including the tokens that were written.
     pub fn into_inner(self) -> Vec<u8> {
         self.out
     }
@@ -33,7 +34,7 @@ impl Writer {
     ///
     /// # Errors
     ///
-    /// Returns `AllocError` if memory is refused.
+    /// Returns `AllocError` if memory runs out.
     pub fn begin_object(&mut self) -> Result<(), AllocError> {
         self.token(self.after_value, b"{", false)
     }
@@ -42,7 +43,7 @@ impl Writer {
     ///
     /// # Errors
     ///
-    /// Returns `AllocError` if memory is refused.
+    /// Returns `AllocError` if memory runs out.
     pub fn end_object(&mut self) -> Result<(), AllocError> {
         self.token(false, b"}", true)
     }
@@ -51,7 +52,7 @@ impl Writer {
     ///
     /// # Errors
     ///
-    /// Returns `AllocError` if memory is refused.
+    /// Returns `AllocError` if memory runs out.
     pub fn begin_array(&mut self) -> Result<(), AllocError> {
         self.token(self.after_value, b"[", false)
     }
@@ -60,16 +61,16 @@ impl Writer {
     ///
     /// # Errors
     ///
-    /// Returns `AllocError` if memory is refused.
+    /// Returns `AllocError` if memory runs out.
     pub fn end_array(&mut self) -> Result<(), AllocError> {
         self.token(false, b"]", true)
     }
 
-    /// Writes the name of a member of an object.
+    /// Writes `name` as the name of a member of an object.
     ///
     /// # Errors
     ///
-    /// Returns `AllocError` if memory is refused.
+    /// Returns `AllocError` if memory runs out.
     pub fn key(&mut self, name: &str) -> Result<(), AllocError> {
         self.quoted(name, b"\":", false)
     }
@@ -78,7 +79,7 @@ impl Writer {
     ///
     /// # Errors
     ///
-    /// Returns `AllocError` if memory is refused.
+    /// Returns `AllocError` if memory runs out.
     pub fn string(&mut self, text: &str) -> Result<(), AllocError> {
         self.quoted(text, b"\"", true)
     }
@@ -87,7 +88,7 @@ impl Writer {
     ///
     /// # Errors
     ///
-    /// Returns `AllocError` if memory is refused.
+    /// Returns `AllocError` if memory runs out.
     pub fn u64(&mut self, number: u64) -> Result<(), AllocError> {
         let mut digits = [0; 20];
         let at = write_digits(number, &mut digits, 20);
@@ -98,7 +99,7 @@ impl Writer {
     ///
     /// # Errors
     ///
-    /// Returns `AllocError` if memory is refused.
+    /// Returns `AllocError` if memory runs out.
     pub fn boolean(&mut self, value: bool) -> Result<(), AllocError> {
         let text: &[u8] = if value { b"true" } else { b"false" };
         self.token(self.after_value, text, true)
@@ -108,13 +109,13 @@ impl Writer {
     ///
     /// # Errors
     ///
-    /// Returns `AllocError` if memory is refused.
+    /// Returns `AllocError` if memory runs out.
     pub fn null(&mut self) -> Result<(), AllocError> {
         self.token(self.after_value, b"null", true)
     }
 
-    /// Writes the token `text`, after a comma if `comma`. `is_value` is whether the next value
-    /// needs a comma before it.
+    /// Writes the token `text`, preceded by a comma if `comma` is `true`. `is_value` states whether
+    /// a comma has to precede the next value.
     fn token(&mut self, comma: bool, text: &[u8], is_value: bool) -> Result<(), AllocError> {
         self.out.reserve(text.len() + 1)?;
         if comma {
@@ -125,8 +126,8 @@ impl Writer {
         Ok(())
     }
 
-    /// Writes `text`, escaped, after an opening quote, and before `close`, which begins with the
-    /// closing one. `is_value` is whether the next value needs a comma before it.
+    /// Writes `text`, escaped, between an opening quote and `close`, which begins with the closing
+    /// quote. `is_value` states whether a comma has to precede the next value.
     fn quoted(&mut self, text: &str, close: &[u8], is_value: bool) -> Result<(), AllocError> {
         let len = self.out.len();
         let done = self.escaped(text, close);
@@ -156,7 +157,8 @@ impl Writer {
         self.out.extend_from_slice(close)
     }
 
-    /// Writes the escape of `byte`, a quote, a backslash or a control character.
+    /// Writes the escape sequence of `byte`, which must be a quote, a backslash or a control
+    /// character.
     fn escape(&mut self, byte: u8) -> Result<(), AllocError> {
         let letter = match byte {
             b'"' | b'\\' => byte,

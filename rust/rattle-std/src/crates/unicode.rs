@@ -1,38 +1,40 @@
-//! Replaces the kit's `unicode`: sets of characters by their names, and simple case folding. The
-//! data is in `unicode_tables.rs`, which a program in Rattle generates from the kit's crates.
+//! Replaces the kit's `unicode`: named sets of characters, and simple case folding.
+//!
+//! The data is in `unicode_tables.rs`. A program in Rattle generates this file from the kit's
+//! crates.
 
 pub(super) mod ranges;
 
 pub(super) use ranges::{contains, number_at};
 
-/// The sets of code points that have a name, such as in `\p{Greek}`.
+/// The named sets of code points, such as `Greek` in `\p{Greek}`.
 pub mod sets {
     use super::ranges::ranges_of;
     use crate::alloc::{AllocError, Global};
     use crate::crates::unicode_tables::{ASSIGNED, NAMES};
     use crate::vec::Vec;
 
-    /// A set of code points that has a name.
+    /// A named set of code points.
     #[derive(Clone, Copy, Debug, PartialEq, Eq, Hash)]
     pub enum Set {
         /// All code points.
         Any,
-        /// The code points of ASCII.
+        /// The ASCII code points.
         Ascii,
         /// The code points that Unicode has assigned.
         Assigned,
-        /// The code points with a binary property, a general category or a script, which has this
-        /// number in the tables.
+        /// The code points with a binary property, a general category or a script. The value is the
+        /// number of the set in the tables.
         Named(u16),
     }
 
     impl Set {
-        /// Returns the code points of the set as sorted ranges, each with its first and its last
-        /// code point. The ranges may contain surrogates.
+        /// Returns the code points of the set as sorted ranges. Each range consists of its first
+        /// and its last code point, and may contain surrogates.
         ///
         /// # Errors
         ///
-        /// Returns `AllocError` if memory is refused.
+        /// Returns `AllocError` if memory runs out.
         pub fn ranges(self, alloc: Global) -> Result<Vec<(u32, u32)>, AllocError> {
             match self {
                 Set::Any => Vec::from_slice(alloc, &[(0, 0x10_FFFF)]),
@@ -43,7 +45,7 @@ pub mod sets {
         }
     }
 
-    /// The error that no set has a name.
+    /// The error for a name that no set has.
     #[derive(Clone, Copy, Debug, PartialEq, Eq, Hash)]
     pub enum LookupError {
         /// No binary property, general category or script has the name.
@@ -55,7 +57,7 @@ pub mod sets {
     ///
     /// # Errors
     ///
-    /// Returns `PropertyNotFound` if none of these has the name.
+    /// Returns `PropertyNotFound` if no binary property, general category or script has the name.
     pub fn by_name(name: &[u8]) -> Result<Set, LookupError> {
         match NAMES.binary_search_by(|(it, _)| it.as_bytes().cmp(name)) {
             Ok(at) => Ok(Set::Named(NAMES[at].1)),
@@ -63,12 +65,14 @@ pub mod sets {
         }
     }
 
-    /// Returns `name` in the form in which names are compared: in lower case, without the prefix
-    /// `is`, spaces, `_`, `-` and characters other than ASCII.
+    /// Returns the normalized form of `name`, in which names are compared.
+    ///
+    /// The normalized form is in lower case, without the prefix `is`, spaces, `_`, `-` and
+    /// characters other than ASCII. Only `isc` keeps its prefix.
     ///
     /// # Errors
     ///
-    /// Returns `AllocError` if memory is refused.
+    /// Returns `AllocError` if memory runs out.
     pub fn normalize(alloc: Global, name: &[char]) -> Result<Vec<u8>, AllocError> {
         let (has_prefix, rest) = match name {
             ['i' | 'I', 's' | 'S', rest @ ..] => (true, rest),
@@ -88,37 +92,37 @@ pub mod sets {
     }
 }
 
-/// The sets of `\d`, `\s` and `\w`.
+/// The sets of code points that `\d`, `\s` and `\w` match.
 pub mod perl {
     use super::ranges::ranges_of;
     use crate::alloc::{AllocError, Global};
     use crate::crates::unicode_tables::{DIGIT, SPACE, WORD};
     use crate::vec::Vec;
 
-    /// Returns the code points of `\d` as sorted ranges, each with its first and its last code
-    /// point.
+    /// Returns the code points that `\d` matches as sorted ranges. Each range consists of its first
+    /// and its last code point.
     ///
     /// # Errors
     ///
-    /// Returns `AllocError` if memory is refused.
+    /// Returns `AllocError` if memory runs out.
     pub fn digit_ranges(alloc: Global) -> Result<Vec<(u32, u32)>, AllocError> {
         ranges_of(alloc, DIGIT)
     }
 
-    /// Returns the code points of `\s`, like [`digit_ranges`].
+    /// Returns the code points that `\s` matches, in the form of [`digit_ranges`].
     ///
     /// # Errors
     ///
-    /// Returns `AllocError` if memory is refused.
+    /// Returns `AllocError` if memory runs out.
     pub fn space_ranges(alloc: Global) -> Result<Vec<(u32, u32)>, AllocError> {
         ranges_of(alloc, SPACE)
     }
 
-    /// Returns the code points of `\w`, like [`digit_ranges`].
+    /// Returns the code points that `\w` matches, in the form of [`digit_ranges`].
     ///
     /// # Errors
     ///
-    /// Returns `AllocError` if memory is refused.
+    /// Returns `AllocError` if memory runs out.
     pub fn word_ranges(alloc: Global) -> Result<Vec<(u32, u32)>, AllocError> {
         ranges_of(alloc, WORD)
     }
@@ -131,13 +135,13 @@ pub mod case {
 
     static PAIRS: [(u32, u32); FOLD_COUNT] = pairs();
 
-    /// Returns all pairs of characters that simple case folding makes equal, in both orders,
-    /// sorted.
+    /// Returns all pairs of characters that simple case folding makes equal. Each pair occurs in
+    /// both orders, and the pairs are sorted.
     pub fn fold_pairs() -> &'static [(u32, u32)] {
         &PAIRS
     }
 
-    /// Returns the pairs of the table `FOLDS`, read at compile time.
+    /// Decodes the pairs of the table `FOLDS` at compile time.
     const fn pairs() -> [(u32, u32); FOLD_COUNT] {
         let mut pairs = [(0, 0); FOLD_COUNT];
         let (mut pair, mut at, mut first) = (0, 0, 0);
@@ -160,7 +164,8 @@ pub mod properties {
     use super::contains;
     use super::ranges::{ALPHABETIC, NUMBER};
 
-    /// The general category of a character, as far as the crates need it: whether it is a number.
+    /// The part of a character's general category that the crates need: whether the character is a
+    /// number.
     #[derive(Clone, Copy, Debug, PartialEq, Eq)]
     pub struct GeneralCategory {
         is_number: bool,
@@ -178,7 +183,7 @@ pub mod properties {
     /// A group of general categories.
     #[derive(Clone, Copy, Debug, PartialEq, Eq)]
     pub enum GeneralCategoryGroup {
-        /// Decimal numbers, letters that are numbers, and other numbers.
+        /// The decimal numbers, the letter numbers and the other numbers.
         Number,
     }
 
@@ -191,7 +196,7 @@ pub mod properties {
         }
     }
 
-    /// Returns whether a character has the property Alphabetic of Unicode.
+    /// Returns whether a character has Unicode's property `Alphabetic`.
     pub fn is_alphabetic(c: char) -> bool {
         contains(&ALPHABETIC, c)
     }

@@ -1,9 +1,9 @@
-//! Replaces the kit's `unicode_ident`: characters of identifiers.
+//! Replaces the kit's `unicode_ident`: the characters that identifiers may contain.
 
 use super::unicode::{contains, ranges};
 
-/// Returns whether a character has the property XID_Start of Unicode: an identifier may begin with
-/// it.
+/// Returns whether a character has Unicode's property `XID_Start`. An identifier may begin with
+/// such a character.
 #[inline]
 pub fn is_xid_start(ch: char) -> bool {
     if ch.is_ascii() {
@@ -12,8 +12,8 @@ pub fn is_xid_start(ch: char) -> bool {
     contains(&ranges::XID_START, ch)
 }
 
-/// Returns whether a character has the property XID_Continue of Unicode: it may occur in an
-/// identifier.
+/// Returns whether a character has Unicode's property `XID_Continue`. An identifier may contain
+/// such a character.
 #[inline]
 pub fn is_xid_continue(ch: char) -> bool {
     if ch.is_ascii() {

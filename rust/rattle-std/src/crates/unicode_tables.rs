@@ -1,11 +1,13 @@
-//! Tables of Unicode, printed by `tests/unicode/run.sh --write` from the libraries of Rattle.
+//! The tables of Unicode. `tests/unicode/run.sh --write` prints this file from the libraries of
+//! Rattle.
 //!
-//! Ranges of characters are pairs of numbers: how many characters lie between the range before and
-//! this one, and by how many the last of the range is above its first. A character has five bits of
-//! a number, the lowest ones first: the last five as a character from `0` on, and those before as
-//! characters from `]` on.
+//! A range of characters is a pair of numbers: the number of characters between the preceding range
+//! and this range, and the difference between the last and the first character of this range.
+//!
+//! A number is a sequence of characters with five bits each, the lowest bits first. The bits are
+//! added to `0` in the last character, and to `]` in all other characters.
 
-/// The sets by their names, in the order of these.
+/// The names of the sets in ascending order, each with the number of its set.
 pub(super) static NAMES: [(&str, u16); 553] = [
     ("adlam", 0),
     ("adlm", 0),
@@ -572,7 +574,7 @@ pub(super) const NUMBER: usize = 177;
 pub(super) const XID_START: usize = 279;
 pub(super) const XID_CONTINUE: usize = 278;
 
-/// Where the ranges of each set begin in `RANGES`, and where those of the last one end.
+/// The index in `RANGES` at which the ranges of each set begin, and the end of the last set.
 pub(super) static OFFSETS: [u32; 285] = [
     0, 10, 18, 25, 34, 1887, 1893, 1899, 2036, 2049, 2056, 2059, 3858, 3866, 3874, 3886, 3893,
     3900, 3935, 3942, 3954, 3967, 4242, 4253, 4264, 4269, 4275, 4279, 6086, 6094, 6108, 6114, 6527,
@@ -1156,12 +1158,12 @@ pub(super) static RANGES: &[u8] = b"\
     45z1^10m3i13=2940^:NAv1s>f1s6g1b6N1E81]7613111>1a6;6f1h249cb131J1110201913101060401010121110201\
     010101011102316131310191@52141@qCI6I6Icp29c]1|sf1]1{e41jq52mf7?jC_j2z@_l1gw45ff8cyc1|^;]c^Dl7";
 
-/// How many pairs `FOLDS` has.
+/// The number of pairs in `FOLDS`.
 pub(super) const FOLD_COUNT: usize = 3134;
 
-/// The pairs of characters that simple case folding makes equal: by how much the first one is above
-/// that of the pair before, and twice the difference of the two, less 1 if the second one is
-/// below.
+/// The pairs of characters that simple case folding makes equal. Each pair is two numbers: the
+/// difference between its first character and the first character of the preceding pair, and twice
+/// the difference between its characters, minus 1 if the second character is below the first.
 pub(super) static FOLDS: &[u8] = b"\
     ^2]21]21]21]21]21]21]21]21]21]21]20{j@1]21]21]21]21]21]21]21]20uB1]21]21]21]21]21]21]27|11|11|1\
     1|11|11|11|11|11|11|11|10{h@1|11|11|11|11|11|11|11|10u@1|11|11|11|11|11|11|1x1kk10km1;]21]21]21\
@@ -1257,7 +1259,8 @@ pub(super) static FOLDS: &[u8] = b"\
     21`21`21`21`21`21`21`21`21`21`21`21`21`21`21`21`21`21`21`21`21`21`21`21`21`21`21`21`21`21`21`21\
     `21`2";
 
-/// The widths of characters: how many in turn have one, and the width, or 4 for those without one.
+/// The widths of all characters in order. Each run of characters with equal width is two numbers:
+/// its length, and the width, or 4 if the characters have no width.
 pub(super) static WIDTHS: &[u8] = b"\
     ]14|21^14=110oB1m30p8170d81j101110112011201130x1110:1;01110k11E0@110b3170216021201140^11101110N\
     1K0x21;0w11909110H140119011301150h1130q11205190g11v10t11101110418041103170:120M110w111011102140\

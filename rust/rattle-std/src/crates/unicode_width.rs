@@ -3,7 +3,7 @@
 use super::unicode::number_at;
 use super::unicode_tables::WIDTHS;
 
-/// A character that has a width.
+/// A character with a width on a terminal.
 pub trait UnicodeWidthChar {
     /// Returns the number of columns of the character on a terminal, or `None` for a control
     /// character.
@@ -13,8 +13,8 @@ pub trait UnicodeWidthChar {
 /// The number of runs of consecutive characters with equal width.
 const RUNS: usize = count();
 
-/// The last character of each run, and the width of the run's characters, where 4 means that they
-/// have no width.
+/// The last character of each run, and the width of the run's characters. The width 4 means that
+/// the characters have no width.
 static WIDTH_RUNS: [(u32, u8); RUNS] = runs();
 
 const fn count() -> usize {

@@ -7,13 +7,13 @@ use crate::io::{self, ErrorKind};
 #[derive(Clone)]
 pub struct Metadata {
     found: std::fs::Metadata,
-    /// The hash of the file's absolute path, which serves as the number of the file.
+    /// The number of the file: a hash of its absolute path.
     #[cfg(not(unix))]
     name: u64,
 }
 
 impl Metadata {
-    /// Returns whether the file is a regular one.
+    /// Returns whether the file is a regular file.
     pub fn is_file(&self) -> bool {
         self.found.is_file()
     }
@@ -34,8 +34,8 @@ impl Metadata {
 ///
 /// # Errors
 ///
-/// Returns the error of the system, or one of the kind `Unsupported` for a path in `/proc` on a
-/// system other than Linux.
+/// Returns the error that the system reports, or an error of the kind `Unsupported` for a path in
+/// `/proc` on a system other than Linux.
 pub fn metadata<R: Files>(_rt: &R, path: &str) -> io::Result<Metadata> {
     if cfg!(not(target_os = "linux")) && path.starts_with("/proc/") {
         // Whether a process runs is unknown on this system, so no process is assumed to have ended.
@@ -60,19 +60,19 @@ fn name_of(path: &str) -> io::Result<u64> {
 /// The permissions of a file.
 pub struct Permissions(std::fs::Permissions);
 
-/// Sets the permissions of the file at `path` to the value `to`.
+/// Sets the permissions of the file at `path` to `to`.
 ///
 /// # Errors
 ///
-/// Returns the error of the system.
+/// Returns the error that the system reports.
 pub fn set_permissions<R: Files>(_rt: &R, path: &str, to: Permissions) -> io::Result<()> {
     Ok(std::fs::set_permissions(path, to.0)?)
 }
 
 macro_rules! known_to_unix {
     ($($(#[$doc:meta])* $name:ident: $type:ty, $elsewhere:expr;)*) => {
-        /// The metadata of Unix. On other systems a file is identified by its absolute path, and
-        /// the other numbers are 0.
+        /// The metadata that files have on Unix. On other systems, the number of a file is a hash
+        /// of its absolute path, and the other numbers are 0.
         pub trait MetadataExt {
             $($(#[$doc])* fn $name(&self) -> $type;)*
         }
@@ -101,9 +101,9 @@ known_to_unix! {
     mode: u32, |_| 0;
 }
 
-/// The permissions of a file as the bits of Unix.
+/// The permissions of a file as the mode bits of Unix.
 pub trait PermissionsExt {
-    /// Sets the permissions to the bits of `mode`. Does nothing on other systems than Unix.
+    /// Sets the permissions to the bits of `mode`. Does nothing on systems other than Unix.
     fn set_mode(&mut self, mode: u32);
 }
 

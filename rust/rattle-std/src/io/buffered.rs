@@ -14,11 +14,11 @@ pub struct BufWriter<W: Write> {
 }
 
 impl<W: Write> BufWriter<W> {
-    /// Returns a writer that buffers the bytes for `inner`.
+    /// Returns a writer that buffers bytes and writes them to `inner`.
     ///
     /// # Errors
     ///
-    /// Returns an error of the kind `OutOfMemory` if memory is refused.
+    /// Returns an error of the kind `OutOfMemory` if memory runs out.
     pub fn new(alloc: Global, inner: W) -> Result<BufWriter<W>> {
         let block = Vec::with_capacity(alloc, BLOCK)?;
         Ok(BufWriter { block, inner })

@@ -10,7 +10,8 @@ pub type Result<T> = core::result::Result<T, Error>;
 #[derive(Clone, Copy, Debug)]
 pub struct Error {
     kind: ErrorKind,
-    /// The system's number of the error, if it is one of the system.
+    /// The number that the system has for the error, or `None` if the system did not report the
+    /// error.
     code: Option<i32>,
 }
 
@@ -62,8 +63,8 @@ impl From<std::io::Error> for Error {
     }
 }
 
-/// The system's number of the error for links that form a cycle. Rust's kind of this error is
-/// unstable.
+/// The number that the system has for the error of links that form a cycle. Rust's error kind for
+/// such links is unstable.
 const LINKS_LEAD_ROUND: i32 = if cfg!(any(target_os = "linux", target_os = "android")) {
     40
 } else if cfg!(windows) {
@@ -80,7 +81,7 @@ macro_rules! kinds {
             $($(#[$doc])* $kind,)*
             /// The links of a path form a cycle, or the path has too many links.
             FilesystemLoop,
-            /// Another reason.
+            /// The operation failed for another reason.
             Other,
         }
 
@@ -128,8 +129,8 @@ kinds! {
     TimedOut,
     /// A call of `write` wrote no bytes.
     WriteZero,
-    /// The system does not have the operation.
+    /// The system does not support the operation.
     Unsupported,
-    /// Memory was refused.
+    /// Memory ran out.
     OutOfMemory,
 }

@@ -1,5 +1,7 @@
-//! Operations on blocks of 16 bytes, with the instructions of the machine. Used by `simd`. This
-//! file has all `unsafe` code of the crate: calls of instructions that the machine is known to
+//! Implements operations on blocks of 16 bytes with the instructions of the machine. Used by
+//! `simd`.
+//!
+//! This file has all `unsafe` code of the crate: calls of instructions that the machine is known to
 //! have.
 
 #![allow(unsafe_code)]
@@ -11,7 +13,8 @@ pub(super) use plain::{and, at, equal, or, shifted, tops};
 #[cfg(target_arch = "x86_64")]
 pub(super) use x86::{and, at, equal, or, shifted, tops};
 
-/// The operations with loops. Tests compare the other implementations with these.
+/// The operations, implemented with loops. Tests compare the other implementations with these
+/// loops.
 #[cfg_attr(any(target_arch = "x86_64", target_arch = "aarch64"), allow(dead_code))]
 pub(super) mod plain {
     use core::array::from_fn;
@@ -28,20 +31,20 @@ pub(super) mod plain {
         (u128::from_ne_bytes(a) | u128::from_ne_bytes(b)).to_ne_bytes()
     }
 
-    /// Returns each of `bytes` shifted right by the number in `by` with the same index, which must
+    /// Returns each of `bytes`, shifted right by the number at its index in `by`. The numbers must
     /// be below 8.
     #[inline(always)]
     pub fn shifted(bytes: [u8; 16], by: [u8; 16]) -> [u8; 16] {
         from_fn(|k| bytes[k] >> by[k])
     }
 
-    /// Returns the bytes at `indices`, which must be below 16.
+    /// Returns the elements of `bytes` at `indices`. The indices must be below 16.
     #[inline(always)]
     pub fn at(bytes: [u8; 16], indices: [u8; 16]) -> [u8; 16] {
         indices.map(|k| bytes[usize::from(k % 16)])
     }
 
-    /// Returns the number whose bit `k` is set if the bytes of the two blocks with index `k` are
+    /// Returns the number whose bit `k` is set if the bytes of the two blocks at the index `k` are
     /// equal.
     #[inline(always)]
     pub fn equal(a: [u8; 16], b: [u8; 16]) -> u16 {
@@ -59,8 +62,8 @@ pub(super) mod plain {
     }
 }
 
-/// The operations with instructions of x86-64: SSE2, which each x86-64 has, and `pshufb` if the
-/// machine has SSSE3.
+/// The operations, implemented with instructions of x86-64: SSE2, which every x86-64 machine has,
+/// and `pshufb` if the machine has SSSE3.
 #[cfg(target_arch = "x86_64")]
 mod x86 {
     use core::arch::asm;
@@ -127,8 +130,8 @@ mod x86 {
         bytes(found)
     }
 
-    /// Returns the result of `at` on the first call, or if the machine has no SSSE3. Sets
-    /// `HAS_SHUFFLE`.
+    /// Returns the result of `at`, computed with a loop. Sets `HAS_SHUFFLE` if the machine has
+    /// SSSE3.
     #[cold]
     #[inline(never)]
     fn at_first(table: __m128i, indices: __m128i) -> __m128i {
@@ -156,7 +159,8 @@ mod x86 {
     }
 }
 
-/// The operations with instructions of 64-bit ARM: NEON, which each 64-bit ARM has.
+/// The operations, implemented with instructions of 64-bit ARM: NEON, which every 64-bit ARM
+/// machine has.
 #[cfg(target_arch = "aarch64")]
 mod arm {
     use core::arch::aarch64::*;

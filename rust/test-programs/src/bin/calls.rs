@@ -1,4 +1,4 @@
-//! The program of `tests/calls`.
+//! Runs the program of `tests/calls`.
 
 use std::process::ExitCode;
 

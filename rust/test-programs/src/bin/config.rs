@@ -1,4 +1,4 @@
-//! The example `examples/config`.
+//! Runs the example `examples/config`.
 
 use std::process::ExitCode;
 

@@ -1,4 +1,4 @@
-//! The example `examples/count`.
+//! Runs the example `examples/count`.
 
 use std::process::ExitCode;
 

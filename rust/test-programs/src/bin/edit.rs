@@ -1,4 +1,4 @@
-//! The example `examples/edit`.
+//! Runs the example `examples/edit`.
 
 use std::process::ExitCode;
 

@@ -1,4 +1,4 @@
-//! The program of `tests/edits`.
+//! Runs the program of `tests/edits`.
 
 use std::process::ExitCode;
 

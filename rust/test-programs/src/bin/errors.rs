@@ -1,4 +1,4 @@
-//! The example `examples/errors`.
+//! Runs the example `examples/errors`.
 
 use std::process::ExitCode;
 

@@ -1,4 +1,4 @@
-//! The program of `tests/evidence`.
+//! Runs the program of `tests/evidence`.
 
 use std::process::ExitCode;
 

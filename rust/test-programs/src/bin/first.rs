@@ -1,4 +1,4 @@
-//! The first program of the guide.
+//! Runs the first program of the guide.
 
 use std::process::ExitCode;
 

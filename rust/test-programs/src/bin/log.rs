@@ -1,4 +1,4 @@
-//! The example `examples/log`.
+//! Runs the example `examples/log`.
 
 use std::process::ExitCode;
 

@@ -1,4 +1,4 @@
-//! The example `examples/query`.
+//! Runs the example `examples/query`.
 
 use std::process::ExitCode;
 

@@ -1,5 +1,5 @@
-//! Builds token buffers tree by tree. The code that strips enums, and that copies types and
-//! callbacks, calls it.
+//! Builds token buffers tree by tree. The code that strips enums or copies types and callbacks
+//! calls this module.
 
 ghost use Rattle.std.specs.Prelude.{◌≡◌, ◌++◌, List, map, IfOk, OnOk};
 ghost use Rattle.logos_token.specs.ViewImports.{group, none, also, append, value_of, flat_token, stream_tokens, tree_of, inside_of};
@@ -10,7 +10,7 @@ use crate::token::views::{Group, TokenStream, TokenTree};
 use crate::token::{Delimiter, Span};
 use std::alloc::Global;
 
-/// Appends to `entries` the entry of a tree, and after it the entries inside the tree.
+/// Appends the entry of a tree to `entries`, followed by the entries inside the tree.
 fn push_tree<'s>(entries: &mut Vec<Entry<'s>>, tree: TokenTree<'_, 's>) -> Result<(), Memory>
     ensures { OnOk result (map value_of entries.new.items ≡
         map value_of entries.old.items ++ flat_token (tree_of tree.entry)) }
@@ -33,7 +33,7 @@ fn push_tree<'s>(entries: &mut Vec<Entry<'s>>, tree: TokenTree<'_, 's>) -> Resul
 }
 
 impl<'s> TokenStream<'s> {
-    /// Returns a buffer without trees, which takes its memory from `alloc`.
+    /// Returns an empty buffer that takes its memory from `alloc`.
     pub fn new(alloc: Global) -> TokenStream<'s>
         ensures { stream_tokens result ≡ none }
     {
@@ -42,7 +42,7 @@ impl<'s> TokenStream<'s> {
         }
     }
 
-    /// Returns the buffer with `tree` added at its end.
+    /// Appends `tree` to the buffer, and returns the buffer.
     ///
     /// # Errors
     ///
@@ -56,7 +56,8 @@ impl<'s> TokenStream<'s> {
         Ok(TokenStream { entries })
     }
 
-    /// Returns a group with these delimiters and this span, which contains all trees of the buffer.
+    /// Returns a group of all trees of the buffer, with the delimiters `delimiter` and the span
+    /// `span`.
     pub fn group(&self, delimiter: Delimiter, span: Span) -> Group<'_, 's>
         ensures { group result.delimiter result.span (inside_of result) ≡
             group delimiter span (stream_tokens self.now) }

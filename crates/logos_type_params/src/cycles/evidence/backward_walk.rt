@@ -4,7 +4,7 @@
 use crate::cycles::evidence::{Membership, meets};
 use std::alloc::{AllocError, Global};
 
-/// An edge, seen from the node to which it leads.
+/// An incoming edge of a node.
 #[derive(Clone, Copy)]
 struct Arrow {
     from: usize,
@@ -15,7 +15,8 @@ struct Arrow {
 /// The state of the traversals against the edges.
 #[derive(Drop)]
 pub(crate) struct Backward {
-    /// The membership of each node, which names its component once the node has been visited.
+    /// The membership of each node. Once a node has been visited, its membership identifies its
+    /// component.
     pub(crate) memberships: Vec<Membership>,
     /// For each node, the edges that lead to it.
     arrows: Vec<Vec<Arrow>>,
@@ -25,8 +26,8 @@ pub(crate) struct Backward {
     order: Vec<usize>,
 }
 
-/// Adds the edges of the node `from`, which lead to the nodes in `list`, to the lists of these
-/// nodes. Ignores numbers without a node.
+/// Adds each edge from the node `from` to a node in `list` to the incoming edges of that node.
+/// Numbers without a node are ignored.
 fn note_edges(arrows: &mut [Vec<Arrow>], from: usize, list: &[usize]) -> Result<(), AllocError> {
     for (edge, to) in list.iter().enumerate() {
         if let Some(row) = arrows.get_mut(*to) {
@@ -46,8 +47,8 @@ fn no_arrows(alloc: Global, len: usize) -> Result<Vec<Vec<Arrow>>, AllocError> {
 }
 
 impl Backward {
-    /// Returns the state before the first traversal of the graph `lists`. `memberships` are those
-    /// that the forward traversal has found.
+    /// Returns the state before the first traversal of the graph `lists`. `memberships` is the
+    /// result of the forward traversal.
     ///
     /// # Errors
     ///
@@ -70,8 +71,8 @@ impl Backward {
         })
     }
 
-    /// Adds `node` to the component of `root`, whose number is `start`, unless the node was visited
-    /// before. `edge` is the index of the node's edge that leads nearer to the root.
+    /// Adds `node` to the component with the root `root` and the number `start`, unless the node
+    /// was visited before. `edge` is the index of the node's edge that leads closer to the root.
     fn membership(
         &mut self,
         node: usize,
@@ -93,7 +94,7 @@ impl Backward {
         Ok(())
     }
 
-    /// Returns the number of edges that lead to `node`: 0 if there is no such node.
+    /// Returns the number of edges that lead to `node`, or 0 if there is no such node.
     fn arrow_count(&self, node: usize) -> usize {
         match self.arrows.get(node) {
             Some(row) => row.len(),
@@ -101,14 +102,14 @@ impl Backward {
         }
     }
 
-    /// Returns the edge at the index `at` among those that lead to `node`, or `None` if there is no
-    /// such edge.
+    /// Returns the edge at the index `at` among the edges that lead to `node`, or `None` if there
+    /// is no such edge.
     fn arrow(&self, node: usize, at: usize) -> Option<Arrow> {
         self.arrows.get(node)?.get(at).copied()
     }
 
-    /// Adds the nodes that have an edge to `node` and were not visited before to the component of
-    /// `root`, whose number is `start`.
+    /// Adds each unvisited node with an edge to `node` to the component with the root `root` and
+    /// the number `start`.
     fn spread(&mut self, node: usize, root: usize, start: usize) -> Result<(), AllocError> {
         for at in 0..self.arrow_count(node) {
             if let Some(arrow) = self.arrow(node, at) {
@@ -118,8 +119,8 @@ impl Backward {
         Ok(())
     }
 
-    /// Adds all nodes that lead to the nodes in `order` from the index `start` on, and were not
-    /// visited before, to the component of `root`, whose number is `start`.
+    /// Completes the component with the root `root` and the number `start`. Adds each unvisited
+    /// node from which a path leads to a node in `order` at or after the index `start`.
     fn finish(&mut self, root: usize, start: usize) -> Result<(), AllocError> {
         let mut at = start;
         while let Some(node) = self.order.get(at).copied() {
@@ -129,8 +130,7 @@ impl Backward {
         Ok(())
     }
 
-    /// Traverses the graph against its edges from each node in `nodes` that was not visited before,
-    /// the last one first.
+    /// Traverses the graph against its edges from each unvisited node in `nodes`, in reverse order.
     ///
     /// # Errors
     ///

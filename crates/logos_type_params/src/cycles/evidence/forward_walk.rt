@@ -1,14 +1,14 @@
-//! Traverses a graph along its edges, and finishes a node after all nodes to which it leads.
-//! `evidence` calls `Forward::walk` first.
+//! Traverses a graph along its edges in depth-first order, and records the order in which the nodes
+//! are finished. `evidence` calls `Forward::walk` first.
 
 use crate::cycles::evidence::{Membership, meets};
 use std::alloc::{AllocError, Global};
 
-/// A node on the path, which is not finished.
+/// An unfinished node on the path.
 #[derive(Clone, Copy)]
 struct PathNode {
     node: usize,
-    /// The index of the next edge to follow in the node's list.
+    /// The index, in the node's list, of the next edge to follow.
     next: usize,
 }
 
@@ -18,17 +18,17 @@ pub(crate) struct Forward {
     /// For each node, the edge through which it was visited, and the length of the path at that
     /// time.
     pub(crate) memberships: Vec<Membership>,
-    /// The nodes that are finished, in the order in which they were finished.
+    /// The finished nodes, in the order in which they were finished.
     pub(crate) left: Vec<usize>,
     /// For each node, whether it was visited.
     met: Vec<bool>,
-    /// The path from the start to the current node. Each node on it but the first was visited
-    /// through an edge of an earlier one.
+    /// The path from the start to the current node. Each node except the first was visited through
+    /// an edge of an earlier node on the path.
     path: Vec<PathNode>,
 }
 
-/// Returns an upper bound of the number of steps of a traversal: one for each edge, and one to
-/// finish each node.
+/// Returns an upper bound for the number of steps of a traversal: one step for each edge, and one
+/// to finish each node.
 fn steps_along(lists: &[Vec<usize>]) -> usize {
     let mut steps = lists.len();
     for list in lists {
@@ -63,8 +63,8 @@ impl Forward {
         })
     }
 
-    /// Follows the edge from the node `from` to the node `to`, which has the index `edge` among the
-    /// edges of `from`. Adds `to` to the path, unless it was visited before.
+    /// Follows the edge at the index `edge` among the edges of the node `from` to the node `to`.
+    /// Adds `to` to the path unless `to` was visited before.
     fn follow(&mut self, from: usize, edge: usize, to: usize) -> Result<(), AllocError> {
         if !meets(&mut self.met, to) {
             return Ok(());
@@ -79,8 +79,8 @@ impl Forward {
         Ok(())
     }
 
-    /// Follows the next edge of `frame`, which was removed from the end of the path, or finishes
-    /// the node if no edge is left.
+    /// Follows the next edge of `frame`, or finishes its node if no edge is left. `frame` was
+    /// removed from the end of the path.
     fn step(&mut self, lists: &[Vec<usize>], frame: PathNode) -> Result<(), AllocError> {
         let Some(list) = lists.get(frame.node) else {
             return Ok(());
@@ -96,7 +96,7 @@ impl Forward {
         self.follow(frame.node, frame.next, *to)
     }
 
-    /// Takes steps until the path is empty, but at most `steps`.
+    /// Takes at most `steps` steps, until the path is empty.
     fn finish(&mut self, lists: &[Vec<usize>], steps: usize) -> Result<(), AllocError> {
         for _ in 0..steps {
             let Some(frame) = self.path.pop() else {

@@ -1,13 +1,16 @@
-//! Hashes of keys. Used by `indexmap`.
+//! Computes the hashes of keys. Used by `indexmap`.
 
 use core::hash::{BuildHasher, Hasher};
 use std::hash::RandomState;
 
-/// A hash of a sequence of words: each word is combined with the hash before it and multiplied by a
-/// random number, and the halves of the product are combined. For the short keys of the crates, and
-/// for bytes that are hashed one at a time, this takes a fraction of the time of Rust's own hash.
+/// A hash of a sequence of words.
 ///
-/// The initial value of the hash is random too, so that keys with equal hashes are hard to find.
+/// Each word is combined with the hash of the preceding words by exclusive or. The result is
+/// multiplied by a random number, and the halves of the product are combined by exclusive or. For
+/// the short keys of the crates, and for bytes that are hashed one at a time, this hash takes a
+/// fraction of the time of Rust's own hash.
+///
+/// The initial value of the hash is also random, so that keys with equal hashes are hard to find.
 #[derive(Clone, Copy)]
 pub(super) struct Folded {
     hash: u64,

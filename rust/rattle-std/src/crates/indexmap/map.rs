@@ -1,4 +1,4 @@
-//! A map from keys to values, whose entries have indices in the order in which they were added.
+//! A map from keys to values. Its entries are numbered in the order in which they were added.
 
 use super::Entries;
 use crate::alloc::{AllocError, AllocFailed, Global};
@@ -7,7 +7,7 @@ use core::hash::Hash;
 use core::iter::Map;
 use core::slice::Iter;
 
-/// A map from keys to values. Its entries have indices in the order in which they were added.
+/// A map from keys to values. Its entries are numbered in the order in which they were added.
 pub struct IndexMap<K, V>(Entries<(K, V)>);
 
 impl<K: Eq + Hash, V> IndexMap<K, V> {
@@ -20,7 +20,7 @@ impl<K: Eq + Hash, V> IndexMap<K, V> {
     ///
     /// # Errors
     ///
-    /// Returns `AllocError` if memory is refused.
+    /// Returns `AllocError` if memory runs out.
     pub fn reserve(&mut self, additional: usize) -> Result<(), AllocError> {
         self.0.reserve(additional)
     }
@@ -51,12 +51,13 @@ impl<K: Eq + Hash, V> IndexMap<K, V> {
         Some(&self.0.list[index].1)
     }
 
-    /// Sets the value of `key`, and returns its former value, or `None` if the key is new.
+    /// Sets the value of `key` to `value`. Returns the former value of `key`, or `None` if `key` is
+    /// new.
     ///
     /// # Errors
     ///
-    /// Returns `AllocFailed` with the key and the value if memory is refused. The map is unchanged
-    /// then.
+    /// Returns `AllocFailed` with the key and the value if memory runs out. In this case, the map
+    /// is unchanged.
     pub fn insert(&mut self, key: K, value: V) -> Result<Option<V>, AllocFailed<(K, V)>> {
         let hash = self.0.table.hash_of(&key);
         if let Some(index) = self.0.find(hash, |entry| entry.0 == key) {
@@ -67,7 +68,8 @@ impl<K: Eq + Hash, V> IndexMap<K, V> {
         Ok(None)
     }
 
-    /// Returns an iterator over the keys and their values, in the order of their indices.
+    /// Returns an iterator over the keys and the values of all entries, in the order of their
+    /// indices.
     pub fn iter(&self) -> Pairs<'_, K, V> {
         self.0.list.iter().map(|(key, value)| (key, value))
     }

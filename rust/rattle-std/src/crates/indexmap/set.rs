@@ -1,4 +1,4 @@
-//! A set whose values have indices, in the order in which they were added.
+//! A set whose values are numbered in the order in which they were added.
 
 use super::Entries;
 use crate::alloc::{AllocError, AllocFailed, Global};
@@ -8,7 +8,7 @@ use core::fmt;
 use core::hash::Hash;
 use core::slice::Iter;
 
-/// A set of values, which have indices in the order in which they were added.
+/// A set whose values are numbered in the order in which they were added.
 pub struct IndexSet<T>(Entries<T>);
 
 impl<T: Eq + Hash> IndexSet<T> {
@@ -26,7 +26,7 @@ impl<T: Eq + Hash> IndexSet<T> {
     ///
     /// # Errors
     ///
-    /// Returns `AllocError` if memory is refused.
+    /// Returns `AllocError` if memory runs out.
     pub fn reserve(&mut self, additional: usize) -> Result<(), AllocError> {
         self.0.reserve(additional)
     }
@@ -53,7 +53,7 @@ impl<T: Eq + Hash> IndexSet<T> {
         self.0.list.iter()
     }
 
-    /// Returns the value with the index `index`, or `None` if there is none.
+    /// Returns the value at the index `index`, or `None` if the index is out of bounds.
     #[inline]
     pub fn get_index(&self, index: usize) -> Option<&T> {
         self.0.list.get(index)
@@ -77,21 +77,22 @@ impl<T: Eq + Hash> IndexSet<T> {
         self.get_index_of(value).is_some()
     }
 
-    /// Adds `value` to the set, and returns whether it is new. A value that is not new is dropped.
+    /// Adds `value` to the set unless the set contains an equal value. Returns whether `value` was
+    /// added.
     ///
     /// # Errors
     ///
-    /// Returns `AllocFailed` with the value if memory is refused. The set is unchanged then.
+    /// Returns `AllocFailed` with the value if memory runs out. In this case, the set is unchanged.
     pub fn insert(&mut self, value: T) -> Result<bool, AllocFailed<T>> {
         Ok(self.insert_full(value)?.1)
     }
 
-    /// Adds `value` to the set, and returns its index and whether it is new. A value that is not
-    /// new is dropped.
+    /// Adds `value` to the set unless the set contains an equal value. Returns the index of the
+    /// value in the set, and whether `value` was added.
     ///
     /// # Errors
     ///
-    /// Returns `AllocFailed` with the value if memory is refused. The set is unchanged then.
+    /// Returns `AllocFailed` with the value if memory runs out. In this case, the set is unchanged.
     #[inline]
     pub fn insert_full(&mut self, value: T) -> Result<(usize, bool), AllocFailed<T>> {
         let hash = self.0.table.hash_of(&value);
@@ -107,7 +108,7 @@ impl<T: Eq + Hash> IndexSet<T> {
         self.0.table.clear();
     }
 
-    /// Removes all except the first `len` values. Does nothing if there are not more.
+    /// Removes all values except the first `len`. Does nothing if the set has at most `len` values.
     pub fn truncate(&mut self, len: usize) {
         for index in (len..self.len()).rev() {
             let hash = self.0.table.hash_of(&self.0.list[index]);
