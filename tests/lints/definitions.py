@@ -12,7 +12,7 @@ Looked up are
   a comment, above itself, above the type that it belongs to, or above the block of lines in which
   it is declared;
 - each definition that one of these needs, directly or by others: its file stands on the page;
-- each file that the reading order of a claim names: it stands on the page under its crate;
+- each file that a table of claims names: it stands on the page under its crate;
 - each code of a fault: the page has it, and the definition of its fault is declared in the file of
   its line;
 - each other name in backticks: it is a path, or its words stand somewhere in the crates.
