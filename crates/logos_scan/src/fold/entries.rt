@@ -11,10 +11,10 @@ use logos_code::code::rows::{
 };
 use logos_hir::leaf::LeafId;
 
-/// The flag of an entry where a match of a leaf that may have a callback ends before the byte.
+/// The flag of an entry before whose byte a match of a leaf ends, if the leaf may have a callback.
 pub const CALLS: u32 = 1 << 29;
 
-/// The number of entries of one kind in the rows of a code.
+/// The number of possible entries of each kind in the rows of a code.
 const NAMED: u32 = 1 << 28;
 
 /// The maximum number of entries that folded rows can have.
@@ -48,8 +48,8 @@ fn step_of(entry: u32) -> Step
     }
 }
 
-/// Returns the step of a match that ends before its byte. `named` is the operand of the byte's
-/// entry, and `used` the use of the match.
+/// Returns the step of a byte before which a match ends. `named` is the operand of the byte's
+/// entry, and `used` is the use of the match.
 fn before(named: u32, used: MatchUse) -> Step
     requires { named < NAMED }
     ensures { IsStepOf (first_halting used + named) result }

@@ -7,18 +7,18 @@ ghost use Rattle.logos_scan.specs.walk.Views.{HasRoom, Finds, Finishes, IsInWord
 use crate::walk::blocks::CHUNK;
 use crate::walk::masks::ChunkEntries;
 
-/// A point of a scan in a chunk: before the entry `from`, in a word of flags. `tokens` has the
-/// flags of the word's pending entries that are left, and `ends` those of the ends of matches in
-/// the word. The last end before an entry is computed only when it is requested, so that `next`
-/// changes only the flags that it passes.
+/// A point of a scan in a chunk: before the entry `from`, in a word of flags. `tokens` contains the
+/// flags of the pending entries in the word that have not been passed, and `ends` contains the
+/// flags of the ends of matches in the word. The last end before an entry is computed only when it
+/// is requested, so that `next` changes only the flags that it passes.
 #[derive(Clone, Copy, Drop)]
 pub struct ChunkCursor {
     /// The offset of the chunk in the input, in bytes.
     pub base: usize,
     /// The index of the first entry that has not been passed.
     pub from: usize,
-    /// The offset in the input at which the attempt begins that is active before the first end of
-    /// the word.
+    /// The start of the attempt that is active before the first end of the word, as an offset in
+    /// the input.
     pub word_start: usize,
     word: usize,
     tokens: u64,
@@ -49,8 +49,8 @@ impl ChunkCursor {
         }
     }
 
-    /// Returns the start of the attempt that is active after some ends of the word, whose bits are
-    /// set in `bits`.
+    /// Returns the start of the attempt that is active after the ends whose bits are set in `bits`.
+    /// The ends must be in the word.
     #[inline(always)]
     fn start_after(self, bits: u64) -> usize
         requires room { HasRoom self.base }
@@ -75,7 +75,7 @@ impl ChunkCursor {
         self.start_after(self.ends & before)
     }
 
-    /// Returns the cursor before the next word. This word must have no pending entry left.
+    /// Returns the cursor before the next word. The current word must have no pending entry left.
     #[inline(always)]
     fn moved(self, chunk: &ChunkEntries) -> ChunkCursor
         requires marked { IsMarked chunk.now }

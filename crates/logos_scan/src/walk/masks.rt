@@ -102,7 +102,7 @@ impl ChunkEntries {
         }
     }
 
-    /// Computes the words of flags from the entries: those from index `from` up to but not
+    /// Computes words of flags from the entries: the words from the index `from` up to but not
     /// including `to`.
     pub fn mark(&mut self, from: usize, to: usize)
         requires order { from ≤ to }
