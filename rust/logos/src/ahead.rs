@@ -164,7 +164,7 @@ impl Ahead {
         next.is_some()
     }
 
-    /// Returns the state, and replaces it by [`Ahead::NONE`].
+    /// Returns the state, and replaces it with [`Ahead::NONE`].
     #[inline(always)]
     pub(crate) fn take(&mut self) -> Ahead {
         core::mem::replace(self, Ahead::NONE)

@@ -13,8 +13,8 @@ pub(crate) const SYMBOLS: usize = 257;
 pub(crate) const END: usize = 256;
 /// The maximum number of states for which a row has an entry for each byte.
 const FEW: usize = 300;
-/// The number of columns of a row that has an entry for each byte. With a power of two, the entries
-/// of a byte in all rows would compete for a few cache lines.
+/// The number of columns of a row that has an entry for each byte. If it were a power of two, the
+/// entries of a byte in all rows would compete for a few cache lines.
 pub(crate) const BYTES: usize = 272;
 
 /// A sequence of numbers, as the size of each number in bytes, and the bytes of all numbers in

@@ -80,8 +80,8 @@ impl Inside {
     }
 }
 
-/// An enum with a table-driven lexer, and its tables in the layout that the loops read. They are
-/// computed from the tables in generated code.
+/// An enum with a table-driven lexer, and its tables in the layout that the loops read. The tables
+/// are computed from the tables in generated code.
 pub trait Made<'source> {
     /// The layout of the rows.
     const LAYOUT: Layout;

@@ -1,5 +1,5 @@
-//! Words, which represent 64 bytes of a chunk. The bit of a byte is set if a match ends before the
-//! byte. Used by `walk` and `ahead`.
+//! Words, each of which represents 64 bytes of a chunk. The bit of a byte is set if a match ends
+//! before the byte. Used by `walk` and `ahead`.
 
 /// 64 bytes of a chunk, with the matches that end before these bytes. The bits of tokens are stored
 /// in `Ahead`, since tokens are taken one by one.
@@ -12,12 +12,13 @@ pub(crate) struct Word {
     pub(crate) here: usize,
     /// The index of the word's first byte in the chunk.
     pub(crate) at: usize,
-    /// The byte offset in the input at which the first match of `ends` begins.
+    /// The byte offset in the input at which the first match of the word begins.
     pub(crate) start: usize,
 }
 
 impl Word {
-    /// Returns a word without ends, whose next match begins at byte offset `start` of the input.
+    /// Returns a word in which no match ends. The next match begins at the byte offset `start` of
+    /// the input.
     pub(crate) const fn empty(start: usize) -> Word {
         Word {
             ends: 0,

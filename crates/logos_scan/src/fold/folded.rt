@@ -9,7 +9,7 @@ use logos_code::code::rows::WIDTH;
 use std::alloc::{AllocError, Global};
 use std::marker::Model;
 
-/// A code with its folded rows. The module `walk` describes their entries.
+/// A code with its folded rows. The module `walk` describes the entries of folded rows.
 #[derive(Drop)]
 pub struct Folded<'c, 's> {
     code: &'c Code<'s>,

@@ -98,8 +98,8 @@ impl ChunkCursor {
         }
     }
 
-    /// Returns the cursor in the first word from this one on that has a pending entry left, or in
-    /// the last word if there is none.
+    /// Returns the cursor in the first word that has a pending entry left, from the current word
+    /// on, or in the last word if no word has one.
     #[inline(always)]
     fn filled(self, chunk: &ChunkEntries) -> ChunkCursor
         requires marked { IsMarked chunk.now }
@@ -119,9 +119,9 @@ impl ChunkCursor {
         cursor
     }
 
-    /// Returns the index of the next pending entry, and passes it. If there is none, returns
-    /// `None`: all entries are passed, and the attempt that is active at the end began at
-    /// `word_start`.
+    /// Passes the next pending entry, and returns its index. If no pending entry is left, passes
+    /// all entries, and returns `None`. The attempt that is active at the end of the chunk then
+    /// began at `word_start`.
     #[inline(always)]
     pub fn next(&mut self, chunk: &ChunkEntries) -> Option<usize>
         requires marked { IsMarked chunk.now }

@@ -89,7 +89,7 @@ fn flags_of(trace: &[u32], at: usize) -> (u64, u64)
 }
 
 impl ChunkEntries {
-    /// Returns a chunk whose entries are 0, without flags.
+    /// Returns a chunk in which all entries and flags are 0.
     pub fn new() -> ChunkEntries
         ensures entries { result.entries ≡ replicate CHUNK 0 }
         ensures ends { result.ends ≡ replicate WORDS 0 }
