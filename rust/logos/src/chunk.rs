@@ -364,8 +364,8 @@ trait Blocks<'source>: Tables<'source> {
         row_starts.map(|row_start| row_start & OFFSET_MASK)
     }
 
-    /// Like [`Blocks::walk_blocks`], for lexers that have states without a row. In UTF-8 text, no
-    /// ASCII byte is read in such a state.
+    /// Like [`Blocks::walk_blocks`], for lexers that have states without a row. While the bytes of
+    /// all blocks are ASCII, no byte is read in such a state, unless the input is not UTF-8.
     #[inline(never)]
     fn walk_characters(
         input: &[u8; CHUNK],
