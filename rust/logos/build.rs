@@ -1,5 +1,5 @@
-//! Sets a variable that states whether the compiler vectorizes loops, which it does only at some
-//! levels of optimization.
+//! Sets the environment variable `LOGOS_VECTORS` for the compilation of this crate if the compiler
+//! vectorizes loops. It does so at the optimization levels 2 and 3.
 
 fn main() {
     println!("cargo:rerun-if-changed=build.rs");

@@ -1,5 +1,5 @@
-//! Returns and appends the names of leaves. Used by `matches`, `examples`, `logos_records` and
-//! other crates.
+//! Functions that return the names of leaves, or append them to a page. Used by `matches`,
+//! `examples`, `logos_records` and other crates.
 
 ghost use Rattle.std.specs.Prelude.{◌≡◌, option_map};
 ghost use Rattle.logos_answers.specs.Imports.{Gains, leaf_name, leaf_text, name_at, variant_name, variant_text};

@@ -54,8 +54,8 @@ impl<'s> FromRun<'s> for Literal<'s> {
     }
 }
 
-/// Reads a type. Reports any other run as `TypeSyntax`, and a run in which too many types are
-/// nested as `LimitTypeNesting`.
+/// Reads a type. Reports a run that is not a type as `TypeSyntax`, and a type that is nested too
+/// deeply as `LimitTypeNesting`.
 impl<'s> FromRun<'s> for TypeExpr<'s> {
     ghost is_read = { λ run read old new.
         ReadsValue run (run_span run) old new (option_map type_tree read) };

@@ -1,4 +1,4 @@
-//! Finds the patterns that can examine the bytes before their start. Used by `explanation`.
+//! Finds the patterns that can examine bytes before the start of a match. Used by `explanation`.
 
 ghost use Rattle.std.specs.Prelude.{◌≡◌, ◌∷◌, []};
 ghost use Rattle.logos_causes.specs.Imports.{some_leads, rule_of};
@@ -9,7 +9,8 @@ use logos_pattern::leaf::{Leaf, VariantKind};
 use logos_report::Start;
 use std::alloc::{AllocError, Global};
 
-/// Returns the patterns of `leaves` that can examine the bytes before their start, in order.
+/// Returns the patterns of `leaves` that can examine bytes before the start of a match, in the
+/// order of the leaves.
 pub(crate) fn starts_of(alloc: Global, leaves: &[Leaf<'_>]) -> Result<Vec<Start>, AllocError> {
     let mut starts = Vec::new(alloc);
     for leaf in leaves {
@@ -18,7 +19,8 @@ pub(crate) fn starts_of(alloc: Global, leaves: &[Leaf<'_>]) -> Result<Vec<Start>
     Ok(starts)
 }
 
-/// Appends the pattern of `leaf` to `starts` if the pattern can examine the bytes before its start.
+/// Appends the pattern of `leaf` to `starts` if the pattern can examine bytes before the start of a
+/// match.
 fn add_start(alloc: Global, leaf: &Leaf<'_>, starts: &mut Vec<Start>) -> Result<(), AllocError> {
     if !looks_first(leaf) {
         return Ok(());
@@ -35,7 +37,7 @@ fn add_start(alloc: Global, leaf: &Leaf<'_>, starts: &mut Vec<Start>) -> Result<
     Ok(())
 }
 
-/// Returns whether the pattern of a leaf can examine the bytes before its start.
+/// Returns whether the pattern of a leaf can examine bytes before the start of a match.
 fn looks_first(leaf: &Leaf<'_>) -> bool
     ensures { result ≡ some_leads (rule_of leaf.now ∷ []) }
 {

@@ -1,4 +1,4 @@
-//! The program `logos_cli`, which expands the derive of each lexer in a Rust file.
+//! The program `logos_cli`, which expands each `#[derive(Logos)]` in Rust files.
 
 #![tactic(auto)]
 

@@ -153,7 +153,8 @@ impl<'s> ErrorType<'s> {
     }
 }
 
-/// Reports that the group of `error(..)` contains no type. `group` are the tokens of the group.
+/// Reports that the group of `error(..)` contains no type. `group` contains the tokens of this
+/// group.
 fn report_empty(group: Tokens<'_, '_>, errors: &mut Errors) -> Result<(), Memory>
     ensures { OnOk result (AddsFault (error_empty (tokens_of group.entry)) errors.old errors.new) }
 {
@@ -165,8 +166,9 @@ fn report_empty(group: Tokens<'_, '_>, errors: &mut Errors) -> Result<(), Memory
     )
 }
 
-/// Returns the error type `type_expr` with the arguments in `pieces`, and reports the arguments'
-/// faults. `run` are the tokens of the type. The first argument can be a callback without a name.
+/// Returns the error type `type_expr` with the arguments in `pieces`. Reports the faults of the
+/// arguments. `run` contains the tokens of the type. The first argument can be a callback without a
+/// name.
 fn with_arguments<'s>(
     run: Tokens<'_, 's>,
     type_expr: TypeExpr<'s>,

@@ -28,8 +28,8 @@ pub struct Derivation {
 
 /// Returns the derivation of the enum that `source` spells. An enum without faults is accepted: it
 /// has an implementation in the shape `shape`, and no errors. An enum with faults is refused: it
-/// has no implementation, and at least one error, with the helps that `helps` adds. Accepted and
-/// refused enums may have warnings.
+/// has no implementation, and at least one error, with the help texts that `helps` adds. Accepted
+/// and refused enums may have warnings.
 ///
 /// # Errors
 ///
@@ -116,7 +116,7 @@ fn refused<H: Helps>(
 }
 
 /// Returns the errors for the faults `errors` of a refused source, followed by the warnings of the
-/// source. `known` is the explanation of the source. `helps` adds helps to the clues of this
+/// source. `known` is the explanation of the source. `helps` adds help texts to the clues of this
 /// explanation.
 fn diagnostics_of<H: Helps>(
     alloc: Global,

@@ -79,7 +79,7 @@ fn add_other_line(line: &str, notes: &mut Vec<Note>) -> Result<(), Memory> {
 }
 
 /// Appends a line to `notes` for each of the first 50 patterns in `starts`. These are the patterns
-/// that can examine the bytes before their start.
+/// that can examine bytes before the start of a match.
 fn add_starts(starts: &[Start], notes: &mut Vec<Note>) -> Result<(), Memory> {
     for start in starts.iter().take(MOST) {
         add_note(start.name.as_str(), notes)?;

@@ -303,8 +303,8 @@ fn clues_of(text: &str, offset: usize, warned: &mut Vec<Warning>) -> Result<Clue
     Ok(clues)
 }
 
-/// Appends the faults of `refusal` to `refused`, with their clues and helps. `part` is the part of
-/// the file that has the faults.
+/// Appends the faults of `refusal` to `refused`, with their clues and help texts. `part` is the
+/// part of the file that has the faults.
 fn push_refusal(
     refused: &mut Vec<Refused>,
     part: Part<'_, '_>,

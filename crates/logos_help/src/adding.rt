@@ -1,4 +1,4 @@
-//! Adds helps to the faults of a source. Called by the programs and the derive macro.
+//! Adds help texts to the faults of a source. Called by the programs and the derive macro.
 
 ghost use Rattle.std.specs.Prelude.{◌≡◌, OnOk, OnErr};
 ghost use Rattle.logos_report.specs.Views.{sizes_of};
@@ -9,8 +9,8 @@ use logos_report::{Clues, Helps, Part};
 use logos_token::error::{Errors, Memory, SpannedError};
 use logos_token::token::Span;
 
-/// The implementation of `Helps` that adds the helps of this crate, for callers that are generic
-/// over `Helps`.
+/// The implementation of `Helps` that adds the help texts of this crate, for callers that are
+/// generic over `Helps`.
 #[derive(Clone, Copy)]
 pub struct FaultHelps;
 
@@ -20,21 +20,21 @@ impl Helps for FaultHelps {
     }
 }
 
-/// Appends the help for each fault in `errors` to the helps of `clues`, in order. Appends `None`
-/// for a fault without a help. `part` is the part of a file that has the faults. A report shows
-/// each help under its fault.
+/// Appends the help text for each fault in `errors` to `clues.helps`, in order. Appends `None` for
+/// a fault without a help text. `part` is the part of a file that has the faults. A report shows
+/// each help text under its fault.
 ///
 /// # Errors
 ///
-/// Returns `Memory` if memory runs out. Some of the helps may then have been appended.
+/// Returns `Memory` if memory runs out. Some of the help texts may then have been appended.
 pub fn add_helps(part: Part<'_, '_>, errors: &Errors, clues: &mut Clues) -> Result<(), Memory>
     ensures { sizes_of clues.new ≡ sizes_of clues.old }
 {
     add_all(part, errors.list(), &mut clues.helps)
 }
 
-/// Appends the help for each of `faults` to `helps`, in order. Appends `None` for a fault without a
-/// help. `part` is the part of a file that has the faults.
+/// Appends the help text for each of `faults` to `helps`, in order. Appends `None` for a fault
+/// without a help text. `part` is the part of a file that has the faults.
 fn add_all(
     part: Part<'_, '_>,
     faults: &[SpannedError],

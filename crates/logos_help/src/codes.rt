@@ -1,5 +1,5 @@
-//! Chooses the help for a fault by its code. `docs/FAULTS.md` repeats the helps, and
-//! `tests/lints/faults.py` compares them. Used by `adding`.
+//! Chooses the help text for a fault by its code. `docs/FAULTS.md` repeats the help texts, and
+//! `tests/lints/faults.py` compares the two. Used by `adding`.
 
 ghost use Rattle.std.specs.Prelude.{option_map};
 ghost use Rattle.logos_help.specs.Patterns.{IsHelp};
@@ -19,8 +19,9 @@ const DOUBLE: &str = "write it in double quotes, as in `\"..\"`";
 
 const RENAME: &str = "rename it: a name contains only ASCII letters, digits and `_`";
 
-/// Returns the help for `fault`, or `None` for a fault with the code `Previous`, which has no help.
-/// The help depends on the detail and the code of the fault, and on `sight`, the text at its span.
+/// Returns the help text for `fault`, or `None` for a fault with the code `Previous`, which has no
+/// help text. The help text depends on the detail and the code of the fault, and on `sight`, the
+/// text at its span.
 pub fn help_for(fault: &SpannedError, sight: Sight<'_>) -> Option<&'static str>
     ensures { IsHelp fault.now.detail (option_map (λ help. help.now) result) }
 {

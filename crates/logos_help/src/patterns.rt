@@ -1,5 +1,6 @@
-//! Chooses the help for a fault in a pattern, by its kind and by the bytes at the fault.
-//! `docs/FAULTS.md` repeats the helps, and `tests/lints/faults.py` compares them. Used by `codes`.
+//! Chooses the help text for a fault in a pattern, by its kind and by the bytes at the fault.
+//! `docs/FAULTS.md` repeats the help texts, and `tests/lints/faults.py` compares the two. Used by
+//! `codes`.
 
 ghost use Rattle.std.specs.Prelude.{◌≡◌};
 ghost use Rattle.logos_help.specs.Patterns.{boundary_help, escape_help, escapes, flag_help, group_help, is_digit, looks_ahead, looks_back, opens_with, pattern_help, refers_back};

@@ -1,5 +1,5 @@
-//! Chooses the help for a fault by the text at its span. `docs/FAULTS.md` repeats the helps, and
-//! `tests/lints/faults.py` compares them. Used by `codes`.
+//! Chooses the help text for a fault by the text at its span. `docs/FAULTS.md` repeats the help
+//! texts, and `tests/lints/faults.py` compares the two. Used by `codes`.
 
 use crate::sight::{Sight, between_quotes};
 

@@ -34,8 +34,8 @@ fn push_put_in(lines: &mut JsonLines, put_in: &Option<String>)
     }
 }
 
-/// Appends a note for each of the first 50 patterns that can examine the bytes before their start.
-/// The note has the name of the leaf.
+/// Appends a note for each of the first 50 patterns that can examine bytes before the start of a
+/// match. The note has the name of the leaf.
 fn push_starts(lines: &mut JsonLines, starts: &[Start])
     ensures { YieldsNotes lines.old lines.new }
 {

@@ -6,8 +6,8 @@ ghost use Rattle.logos_records.specs.Imports.{Gains, Puts, object, cost_members,
 use logos_inspect::{Costs, LeafRow};
 use logos_json::JsonLines;
 
-/// Appends a line with an object for each leaf of the lexer of the enum `name`. The number of a
-/// leaf is the index of its row.
+/// Appends one line for each leaf of the enum `name`: a JSON object that describes the leaf. The
+/// number of a leaf is the index of its row in `rows`.
 pub fn push_leaf_records(lines: &mut JsonLines, name: &str, rows: &[LeafRow<'_>])
     ensures { Puts (leaf_objects name.now 0 rows.now) lines.old lines.new }
 {
@@ -16,7 +16,7 @@ pub fn push_leaf_records(lines: &mut JsonLines, name: &str, rows: &[LeafRow<'_>]
     }
 }
 
-/// Appends the line with the object of the leaf with the number `number`.
+/// Appends a line with the JSON object that describes the leaf with the number `number`.
 fn push_leaf_record(lines: &mut JsonLines, name: &str, number: usize, row: LeafRow<'_>)
     ensures { Puts (object (leaf_members name.now number row.entry) ∷ []) lines.old lines.new }
 {

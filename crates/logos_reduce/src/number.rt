@@ -102,8 +102,8 @@ fn breadth_first(
     Ok(order)
 }
 
-/// Returns `row` with each target replaced by the new number of its block. `blocks` is the block of
-/// each state, and `numbers` has one more than the new number of each block.
+/// Returns `row` with each target replaced by the new number of its block. `blocks[s]` is the block
+/// of the state `s`. `numbers[b]` is one more than the new number of the block `b`.
 fn numbered_row(row: &Row, blocks: &Vec<usize>, numbers: &Vec<usize>) -> Row
     requires inside { (k t : ℕ) → target_by row.now k ≡ Some t → t < vec_len blocks.now }
     requires within { (s : ℕ) → s < vec_len blocks.now →
@@ -129,7 +129,8 @@ fn numbered_row(row: &Row, blocks: &Vec<usize>, numbers: &Vec<usize>) -> Row
 }
 
 /// Returns the row entry that leads to the block of `target` under its new number, or 0 if `target`
-/// is `None`. `blocks` is the block of each state, and `numbers` has the entry of each block.
+/// is `None`. `blocks[s]` is the block of the state `s`. `numbers[b]` is one more than the new
+/// number of the block `b`.
 fn numbered_entry(target: Option<usize>, blocks: &Vec<usize>, numbers: &Vec<usize>) -> u32
     requires inside { (t : ℕ) → target ≡ Some t → t < vec_len blocks.now }
     requires within { (s : ℕ) → s < vec_len blocks.now →

@@ -1,4 +1,4 @@
-//! Reduces a table to the least table that records the same matches. `logos_graph` calls `reduce`
+//! Reduces a table to the smallest table that records the same matches. Called by `logos_graph`
 //! with the table of an automaton.
 
 ghost use Rattle.std.specs.Prelude.{◌<◌, IfOk};
@@ -23,8 +23,8 @@ pub struct Reduction {
     pub splits: Vec<Split>,
 }
 
-/// Returns the least table that records the same matches as `table` after the same bytes, from the
-/// state `root` on.
+/// Returns the smallest table that records the same matches as `table` after the same bytes, from
+/// the state `root` on.
 ///
 /// Early marks are set, and the late marks that they make redundant are removed. Edges to states
 /// that have no mark and lead to no state with a mark are removed. Equivalent states are merged.

@@ -13,10 +13,10 @@ use std::alloc::Global;
 pub struct Clues {
     /// The clues about the sets of ambiguous leaves, in the order of the sets' faults.
     pub meetings: Vec<Meeting>,
-    /// The patterns that can examine the bytes before their start.
+    /// The patterns that can examine bytes before the start of a match.
     pub starts: Vec<Start>,
-    /// The help for each fault, in the order of the faults. A fault whose entry is `None` or
-    /// missing has no help.
+    /// The help text for each fault, in the order of the faults. A fault whose entry is `None` or
+    /// missing has no help text.
     pub helps: Vec<Option<&'static str>>,
 }
 
@@ -30,7 +30,7 @@ pub struct Meeting {
     pub note: String,
 }
 
-/// A pattern that can examine the bytes before its start.
+/// A pattern that can examine bytes before the start of a match.
 #[derive(Debug, Drop)]
 pub struct Start {
     /// The name of the pattern's leaf.
@@ -60,7 +60,7 @@ pub struct NextFaults<'c> {
     meetings: &'c [Meeting],
     /// The number of passed faults in the first set of `meetings`.
     passed: usize,
-    /// The patterns that can examine the bytes before their start.
+    /// The patterns that can examine bytes before the start of a match.
     starts: &'c [Start],
     /// The entries of `Clues::helps` for the remaining faults.
     helps: &'c [Option<&'static str>],

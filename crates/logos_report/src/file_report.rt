@@ -1,5 +1,5 @@
-//! Appends the faults of a whole file to a report, part by part. The parts share the count of shown
-//! faults. Used by `logos_derive`, `logos_expand` and `logos_messages`.
+//! Appends the faults of all parts of a file to a report, in order. The limit on shown faults
+//! applies to all parts together. Used by `logos_derive`, `logos_expand` and `logos_messages`.
 
 ghost use Rattle.std.specs.Prelude.{◌≡◌, ◌++◌, ◌+◌, ◌<◌, ◌^◌, ◌-◌, length, min};
 ghost use Rattle.logos_page.specs.Pages.{PageValue};

@@ -1,6 +1,6 @@
 //! Appends faults with the clues about them. Each set of ambiguous leaves with a clue has one
-//! report, and the patterns that can examine the bytes before their start are shown under the fault
-//! that they explain. Used by `faults`.
+//! report. A pattern that can examine bytes before the start of a match is shown under the fault
+//! that it explains. Used by `faults`.
 
 ghost use Rattle.std.specs.Prelude.{◌∷◌, ◌++◌, [], map, nat_lt, if◌then◌else◌};
 ghost use Rattle.logos_report.specs.Views.{fault_of, from_of, fault_texts, listed_texts, Shows, location_line, next_value, offsets_of, starts_in};
@@ -140,8 +140,8 @@ fn push_starts(page: &mut Page, part: Part<'_, '_>, starts: &[Start])
     }
 }
 
-/// Appends the location and the lines of a pattern that can examine the bytes before its start,
-/// with carets and the name of its leaf.
+/// Appends the location and the lines of a pattern that can examine bytes before the start of a
+/// match, with carets and the name of the pattern's leaf.
 fn push_start(page: &mut Page, part: Part<'_, '_>, start: &Start)
     ensures { Shows (location_line page.old.is_colored part.entry.source.now part.entry.offset
         (from_of start.now) ∷ []) page.old page.new }

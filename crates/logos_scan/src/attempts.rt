@@ -22,8 +22,8 @@ pub enum Taken {
     Ends,
 }
 
-/// Returns the result of the first match attempt from `start` on whose outcome is not `Skips`, and
-/// the start of the next attempt.
+/// Makes match attempts from `start` on, until the outcome of one is not `Skips`. Returns the
+/// result of this attempt, and the start of the next attempt.
 pub(crate) fn attempted(code: &Code, input: &[u8], start: usize) -> (Taken, usize)
     requires { start ≤ length input.now }
     ensures { IsTaken code.now input.now start result.0 result.1 }

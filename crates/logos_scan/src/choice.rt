@@ -13,15 +13,15 @@ use std::alloc::{AllocError, Global};
 /// are in hundredths of a nanosecond.
 const SAVED: usize = 100;
 
-/// The time for folding the row of a state, into memory that is new.
+/// The time for folding the row of a state into newly allocated memory.
 const FOLD: usize = 200_000;
 
 /// The time for the walk over one sample.
 const TRIAL: usize = 2_000_000;
 
 /// Returns the folded rows of a code if a scan by chunks likely takes less time on the input than a
-/// lexer. Returns `None` otherwise, or if the code has too many states for folded rows. Any result
-/// is correct, since a scan and a lexer find the same items.
+/// lexer. Returns `None` if this is unlikely, or if the code has too many states for folded rows.
+/// Any result is correct, since a scan and a lexer find the same items.
 ///
 /// # Errors
 ///

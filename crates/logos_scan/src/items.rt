@@ -1,4 +1,4 @@
-//! Returns all items of an input at once, from a scan or from a lexer. `logos_codegen` calls it.
+//! Returns all items of an input at once, from a scan or from a lexer. Called by `logos_codegen`.
 
 ghost use Rattle.std.specs.Prelude.{◌≡◌, map, IfOk};
 ghost use Rattle.logos_scan.specs.Imports.{answers_of, item_of, Runs, TakesMatches};

@@ -27,7 +27,7 @@ pub struct Reading<'r, 'c, 's, 'i> {
 }
 
 impl<'r, 'c, 's, 'i> Reading<'r, 'c, 's, 'i> {
-    /// Returns the reading of an input with the folded rows of a code.
+    /// Returns a reading of `input` with the folded rows of a code.
     pub fn new(folded: &'r Folded<'c, 's>, input: &'i [u8]) -> Reading<'r, 'c, 's, 'i>
         ensures folded { IsReading result }
         ensures code { result.code.now ≡ folded.now.code }
@@ -48,9 +48,9 @@ pub struct Loaded {
     pub row_start: usize,
 }
 
-/// A scan of an input: its point in a chunk, and the start of the next attempt. The chunk is stored
-/// separately, so that the compiler can keep the scan in registers. Calls take the reading and the
-/// chunk with which the scan was made.
+/// A scan of an input, with its point in a chunk and the start of the next attempt. The chunk is
+/// stored separately, so that the compiler can keep the scan in registers. The reading and the
+/// chunk with which the scan was made are passed to each call.
 #[derive(Clone, Copy, Drop)]
 pub struct Run {
     pub cursor: ChunkCursor,
@@ -68,9 +68,9 @@ fn are_bytes(input: &[u8])
     ensures { IsBytes input.now }
 {}
 
-/// Writes into `entries` the entries of the input's bytes from the offset `base` on, at most one
-/// chunk, and 0 for the other entries. The walk begins in the row `row_start`. Returns the number
-/// of these bytes, and the row after them.
+/// Writes the entries of the input's bytes from the offset `base` on, for at most one chunk, into
+/// `entries`, and 0 into the remaining elements. The walk begins in the row `row_start`. Returns
+/// the number of bytes that were walked over, and the row after these bytes.
 fn step_over(reading: &Reading, base: usize, row_start: usize, entries: &mut [u32; 4608]) -> Loaded
     requires reading { IsReading reading.now }
     requires base { base ≤ length reading.now.input.now }
@@ -92,8 +92,9 @@ fn step_over(reading: &Reading, base: usize, row_start: usize, entries: &mut [u3
     }
 }
 
-/// Writes the chunk of the input's bytes from the offset `base` on: the entries, as `step_over`
-/// does, and their flags. Returns the number of these bytes, and the row after them.
+/// Writes the chunk that begins at the offset `base` of the input: the entries of its bytes, as
+/// `step_over` does, and their flags. Returns the number of bytes in the chunk, and the row after
+/// these bytes.
 #[inline(never)]
 fn load(reading: &Reading, base: usize, row_start: usize, chunk: &mut ChunkEntries) -> Loaded
     requires reading { IsReading reading.now }
@@ -146,8 +147,8 @@ fn restarted(reading: &Reading, run: Run, chunk: &mut ChunkEntries, to: usize) -
 }
 
 /// Returns the scan at the index `from` of the chunk, where a match attempt begins. Steps again
-/// over the bytes from there on until a byte leads to the same row as before. The entry must not
-/// have been passed.
+/// over the bytes from this index on, until a byte leads to the same row as before. The scan must
+/// not have passed the entry at the index.
 fn repaired_from(reading: &Reading, run: Run, chunk: &mut ChunkEntries, from: usize) -> Run
     requires reading { IsReading reading.now }
     requires chunk { IsChunk reading.now.rows.now reading.now.input.now (with_chunk chunk.old run) }
@@ -178,8 +179,9 @@ fn repaired_from(reading: &Reading, run: Run, chunk: &mut ChunkEntries, from: us
     }
 }
 
-/// Returns the scan after a new chunk is written, which begins at the offset `base` of the input.
-/// At `base`, the attempt that begins at `start` is in the state of the row `row_start`.
+/// Writes the chunk that begins at the offset `base` of the input, and returns the scan at the
+/// start of this chunk. The attempt that is active at `base` begins at `start`, and is in the state
+/// of the row `row_start`.
 #[inline(always)]
 fn filled(
     reading: &Reading,
@@ -209,7 +211,7 @@ fn filled(
 }
 
 impl Run {
-    /// Returns a scan at the start of an input, after its first chunk is written.
+    /// Writes the first chunk of an input, and returns the scan at the start of the input.
     #[inline(always)]
     pub fn new(reading: &Reading, chunk: &mut ChunkEntries) -> Run
         requires reading { IsReading reading.now }
@@ -219,8 +221,8 @@ impl Run {
         filled(reading, chunk, 0, 0, reading.code.root_row_start())
     }
 
-    /// Moves past the next pending entry, and returns its index in the chunk, or `None` at the end
-    /// of the input.
+    /// Moves past the next pending entry. Returns the index of this entry in the chunk, or `None`
+    /// at the end of the input.
     #[inline(always)]
     fn next_flag(&mut self, reading: &Reading, chunk: &mut ChunkEntries) -> Option<usize>
         requires reading { IsReading reading.now }
@@ -293,9 +295,9 @@ impl Run {
         taken
     }
 
-    /// Returns the next item, or `None` at the end of the input and on every later call. The items
-    /// are those of a lexer with this callback, which is called for each match of a leaf that has a
-    /// callback.
+    /// Returns the next item, or `None` at the end of the input and on every later call. Finds the
+    /// same items as a lexer with the callback `callback`, which is called for each match of a leaf
+    /// that has a callback.
     #[inline(always)]
     pub fn next_item<'i, C: Fn(LeafId, &[u8]) -> Action>(
         &mut self,

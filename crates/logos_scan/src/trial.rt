@@ -13,14 +13,14 @@ use crate::walk::blocks::{BLOCK, BLOCKS, CHUNK, walk_chunk};
 use crate::walk::guess::guess_row_starts;
 use crate::walk::{ENDED, OFFSET_MASK, TOKEN, entry_of};
 
-/// The number of bytes of the input for each chunk that is walked over.
+/// The number of bytes of the input from which one chunk is walked over.
 const SPREAD: usize = 64 * CHUNK;
 
 /// The greatest number of chunks that are walked over.
 const MOST: usize = 8;
 
-/// The number of bytes of each chunk that are counted, except those that are stepped over again:
-/// counting takes longer than the walk.
+/// The number of bytes of each chunk that are counted, since counting takes longer than the walk.
+/// Only the bytes that are stepped over again are counted in the whole chunk.
 const COUNTED: usize = 2 * BLOCK;
 
 /// The cost of each byte, for a scan. All costs are fitted on measured texts, in hundredths of a
@@ -31,7 +31,7 @@ const STEP: usize = 90;
 const PENDING: usize = 270;
 
 /// The cost of each byte that is stepped over again, for a scan. It is a third of the fitted cost,
-/// since only a third of each chunk is counted otherwise.
+/// since the other counts cover only a third of each chunk.
 const AGAIN: usize = 76;
 
 /// The cost of each attempt that is repeated, for a scan.
@@ -52,8 +52,8 @@ const LOOP: usize = 455;
 /// The cost of each section that processors likely predict wrong, for a lexer.
 const MISS: usize = 866;
 
-/// The cost of each attempt that is repeated, for a lexer: it returns to its last mark, or ends in
-/// an error.
+/// The cost of each attempt that is repeated, for a lexer. Such an attempt returns to its last
+/// mark, or ends in an error.
 const RETURN: usize = 1_370;
 
 /// The counts of walks over chunks of an input.
@@ -63,17 +63,17 @@ pub struct TrialCounts {
     pub bytes: usize,
     /// The number of bytes before which a match ends.
     pub ends: usize,
-    /// The number of these matches that are not skipped.
+    /// The number of bytes before which a match ends that is not skipped.
     pub tokens: usize,
     /// The number of bytes that lead to another row within an attempt.
     pub entered: usize,
-    /// The number of runs of bytes that stay in a row.
+    /// The number of runs of bytes that do not change the row.
     pub loops: usize,
     /// The number of sections of attempts that are predicted wrong.
     pub missed: usize,
     /// The number of bytes that need a repeated attempt.
     pub repeated: usize,
-    /// The number of bytes of whole chunks that are stepped over again, since the row of their
+    /// The number of bytes in whole chunks that are stepped over again, because the row of their
     /// block was guessed wrong.
     pub again: usize,
 }
@@ -111,8 +111,8 @@ pub fn trial_counts(reading: &Reading) -> TrialCounts
     counts
 }
 
-/// Returns the counts of a walk over one chunk of bytes, which begins after the first line end
-/// among the `CHUNK` bytes from `at` on, or at `at` if there is none.
+/// Returns the counts of a walk over one chunk of bytes. The chunk begins after the first line end
+/// among the `CHUNK` bytes from `at` on, or at `at` if these bytes contain no line end.
 fn chunk_counts(reading: &Reading, at: usize, predictor: &mut Predictor) -> TrialCounts
     requires reading { IsReading reading.now }
     requires at { at + 2 * CHUNK ≤ length reading.now.input.now }
@@ -128,8 +128,8 @@ fn chunk_counts(reading: &Reading, at: usize, predictor: &mut Predictor) -> Tria
     }
 }
 
-/// Returns the index after the first line end in `part`, or 0 if there is none. Few tokens extend
-/// over a line end.
+/// Returns the index after the first line end in `part`, or 0 if `part` has no line end. Few tokens
+/// extend over a line end.
 pub(crate) fn line_start(part: &[u8]) -> usize
     ensures { result ≤ length part.now }
 {
@@ -141,7 +141,7 @@ pub(crate) fn line_start(part: &[u8]) -> usize
     0
 }
 
-/// Returns the counts of the first entries of a walk, where `again` is 0.
+/// Returns the counts of the first `COUNTED` entries of a walk. The count `again` is 0.
 fn trace_counts(trace: &[u32], predictor: &mut Predictor) -> TrialCounts
     requires trace { length trace.now ≡ CHUNK }
 {
@@ -157,7 +157,7 @@ fn trace_counts(trace: &[u32], predictor: &mut Predictor) -> TrialCounts
     counts
 }
 
-/// Returns the counts of one entry after a section, where `bytes` and `again` are 0.
+/// Returns the counts of one entry after a section. The counts `bytes` and `again` are 0.
 #[inline(always)]
 fn entry_counts(section: Section, entry: u32, predictor: &mut Predictor) -> TrialCounts {
     TrialCounts {
@@ -182,8 +182,8 @@ fn missed(section: Section, entry: u32, predictor: &mut Predictor) -> usize {
     }
 }
 
-/// Returns the number of bytes of a chunk that were stepped over again. `trace` has the entries of
-/// the walk over the chunk.
+/// Returns the number of bytes of a chunk that were stepped over again. `trace` contains the
+/// entries of the walk over the chunk.
 fn steps_again(rows: &[u32], text: &[u8], root: usize, trace: &[u32]) -> usize
     requires closed { IsClosed rows.now }
     requires root { IsRowStart rows.now root }
@@ -198,9 +198,9 @@ fn steps_again(rows: &[u32], text: &[u8], root: usize, trace: &[u32]) -> usize
     again
 }
 
-/// Returns the number of bytes that were stepped over again in the block that begins at `from`: 0
-/// if `guess` was right, and otherwise those up to the first byte that leads from the guessed row
-/// to the row of the walk, with this byte.
+/// Returns the number of bytes that were stepped over again in the block that begins at `from`. The
+/// number is 0 if `guess` was right. Otherwise it includes the bytes up to the first byte that
+/// leads to the same row from the guessed row as in the walk.
 fn block_steps(rows: &[u32], text: &[u8], guess: usize, trace: &[u32], from: usize) -> usize
     requires closed { IsClosed rows.now }
     requires guess { IsRowStart rows.now guess }
@@ -223,7 +223,7 @@ fn block_steps(rows: &[u32], text: &[u8], guess: usize, trace: &[u32], from: usi
 }
 
 impl TrialCounts {
-    /// Returns the sum of these counts and `found`, count by count.
+    /// Returns the sums of the corresponding counts in `self` and `found`.
     fn and(self, found: TrialCounts) -> TrialCounts {
         TrialCounts {
             bytes: self.bytes.wrapping_add(found.bytes),

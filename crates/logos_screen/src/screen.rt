@@ -39,7 +39,7 @@ impl Screen {
 
 /// Returns the form of an output. `color` is the condition under which the output has colors.
 /// `is_terminal` states whether the output is a terminal. Only a terminal has a width, the value of
-/// the variable `COLUMNS`.
+/// the environment variable `COLUMNS`.
 pub fn screen_of<V: Env>(variables: &V, color: Color, is_terminal: bool) -> Screen
     ensures { IsScreenOf color is_terminal result }
 {
@@ -54,8 +54,8 @@ pub fn screen_of<V: Env>(variables: &V, color: Color, is_terminal: bool) -> Scre
     }
 }
 
-/// Returns whether the environment allows colors. Colors are allowed if the variable `NO_COLOR` is
-/// empty or not set.
+/// Returns whether the environment allows colors. Colors are allowed if the environment variable
+/// `NO_COLOR` is empty or not set.
 pub fn allows_colors<V: Env>(variables: &V) -> bool {
     let mut value = [0; 1];
     match variables.var("NO_COLOR", &mut value) {
@@ -65,10 +65,12 @@ pub fn allows_colors<V: Env>(variables: &V) -> bool {
     }
 }
 
-/// The maximum length in bytes of a value of the variable `COLUMNS`. Longer values are ignored.
+/// The maximum length in bytes of the value of the environment variable `COLUMNS`. Longer values
+/// are ignored.
 const DIGITS: usize = 20;
 
-/// Returns the value of the variable `COLUMNS`, or `None` if this value is not a number above 0.
+/// Returns the value of the environment variable `COLUMNS`, or `None` if the variable is not set,
+/// is too long, or is not a positive decimal number.
 fn width_in<V: Env>(variables: &V) -> Option<usize> {
     let mut value = [0; DIGITS];
     match variables.var("COLUMNS", &mut value) {

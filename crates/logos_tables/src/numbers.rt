@@ -44,8 +44,8 @@ pub(crate) fn entry_count(tables: &PrintedTables) -> usize {
     row_entries(tables, 0).saturating_add(256)
 }
 
-/// Returns the number of entries in the folded tables of a lexer with `leaves` leaves. `scan` reads
-/// these tables. If there are too many entries or leaves, the tables have no rows.
+/// Returns the number of entries in the folded tables of a lexer with `leaves` leaves. The walks of
+/// the runtime read these tables. If there are too many entries or leaves, the tables have no rows.
 pub(crate) fn folded_count(tables: &PrintedTables, leaves: usize) -> usize {
     let entries = row_entries(tables, 1);
     if (entries > MOST_ENTRIES) | (leaves > MOST_LEAVES) {
@@ -55,12 +55,12 @@ pub(crate) fn folded_count(tables: &PrintedTables, leaves: usize) -> usize {
 }
 
 /// Returns the number of masks: the least power of two that is not less than the number of distinct
-/// rows in which some byte stays.
+/// rows in which some byte does not change the state.
 pub(crate) fn mask_count(tables: &PrintedTables) -> usize {
     power_of_two(loop_count(tables.rows.distinct.as_slice()))
 }
 
-/// Returns the number of rows in which some byte stays.
+/// Returns the number of rows in which some byte does not change the state.
 fn loop_count(rows: &[Steps]) -> usize {
     let mut count: usize = 0;
     for row in rows {

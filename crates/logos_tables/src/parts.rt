@@ -58,7 +58,7 @@ pub(crate) fn push_unpacked(text: &mut String, states: usize, runs: usize) -> Re
 }
 
 /// Appends the constants that the loop of the runtime reads: the rows, with `entries` entries, and
-/// the entries of the end of the input.
+/// the last match in each state.
 pub(crate) fn push_entries_size(text: &mut String, entries: usize) -> Result<(), Memory>
     ensures { OnOk result (string_bytes text.new
         ≡ string_bytes text.old ++ entries_size_text entries) }
@@ -70,8 +70,7 @@ pub(crate) fn push_entries_size(text: &mut String, entries: usize) -> Result<(),
     Ok(())
 }
 
-/// Appends the constants for the loops over bytes that do not change the state: `masks` masks, and
-/// the ranges of the masks.
+/// Appends the constants for the fast loops: `masks` masks, and the ranges of the masks.
 pub(crate) fn push_masks(text: &mut String, masks: usize) -> Result<(), Memory>
     ensures { OnOk result (string_bytes text.new ≡ string_bytes text.old ++ masks_text masks) }
 {
@@ -82,7 +81,8 @@ pub(crate) fn push_masks(text: &mut String, masks: usize) -> Result<(), Memory>
     Ok(())
 }
 
-/// Appends the constant that `scan` reads: the folded tables, with `entries` entries.
+/// Appends the constant that the walks of the runtime read: the folded tables, with `entries`
+/// entries.
 pub(crate) fn push_folded(text: &mut String, entries: usize) -> Result<(), Memory>
     ensures { OnOk result (string_bytes text.new ≡ string_bytes text.old ++ folded_text entries) }
 {

@@ -27,8 +27,9 @@ pub(crate) fn steps_of(code: &Code<'_>, state: usize) -> Steps
     steps
 }
 
-/// Returns the number that encodes the step of a symbol in a state. The number is 0 if the symbol
-/// leads nowhere, 1 if a byte stays in the state, and 2 plus the number of the target otherwise.
+/// Returns the number that encodes the step of a symbol in a state. The number is 1 if the fast
+/// loop of the state consumes the symbol. Otherwise it is 2 plus the number of the target, or 0 if
+/// the symbol leads nowhere.
 fn step_number(code: &Code<'_>, state: usize, symbol: usize) -> usize
     requires state { state < length code.now.states }
     requires symbol { symbol < SYMBOLS }
@@ -63,7 +64,8 @@ fn number_at_end(code: &Code<'_>, state: usize) -> usize
     led_number(code.parts(), code.at_end(state))
 }
 
-/// Returns the number that encodes the step of a state for a byte that does not stay in the state.
+/// Returns the number that encodes the step of a state for a byte that the state's fast loop does
+/// not consume.
 fn number_of_target(code: &Code<'_>, state: usize, byte: u8) -> usize
     requires { state < length code.now.states }
     ensures { result ≡ led_number (target code.now (state_at code.now state).fork byte) }

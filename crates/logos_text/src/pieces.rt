@@ -13,7 +13,7 @@ pub(crate) fn push_str(text: &mut String, part: &str) -> Result<(), Memory>
     Ok(())
 }
 
-/// Appends `part`, which is neither a condition nor a table, to the text.
+/// Appends `part` to the text. Called for parts that are neither conditions nor tables.
 pub(crate) fn push(text: &mut String, part: &str) -> Result<(), Memory>
     ensures { OnOk result (Grows (string_bytes text.old) (string_bytes text.new)) }
 {

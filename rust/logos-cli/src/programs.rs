@@ -1,5 +1,6 @@
-//! Functions that run a program on the runtime of this process, or on another system. Called by the
-//! programs `logos`, `logos_cli` and `logos_show`, and by the playground.
+//! Functions that run a program with the files, clock and streams of this process, or with those
+//! that the caller passes. Called by the programs `logos`, `logos_cli` and `logos_show`, and by the
+//! playground.
 
 use crate::logos_host::{ComparableFiles, Failure, arguments};
 use std::alloc::{Global, set_budget_of_program};

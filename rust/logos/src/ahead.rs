@@ -1,56 +1,60 @@
-//! The items that a lexer has found ahead of its own offset: tokens of a part of a chunk, or none.
+//! The items that a lexer has found ahead of its own offset: the tokens of a word of a chunk, or
+//! none.
 //!
-//! The loop of `run` takes these tokens. The functions that it calls in this module take and return
-//! the whole state by value, so that a loop over tokens can keep its lexer in registers.
+//! The loop of `run` takes these tokens. The function that the loop calls out of line takes and
+//! returns the whole state by value, so that the compiler can keep the lexer in registers in a loop
+//! over tokens.
 
 use crate::folded::Folded;
 use crate::internal::Tables;
 use crate::walk::{new_room, Room};
 use crate::{Span, Way};
 
-/// The number of bytes that are lexed without looking ahead after a lexer is made. A lexer, or a
-/// clone of one, from which only a few tokens are taken walks over no chunk.
+/// The number of bytes that a new lexer lexes before it looks ahead. A lexer, or a clone of a
+/// lexer, from which only a few tokens are taken thus walks over no chunk.
 const HESITATES: usize = 512;
-/// The number of remaining bytes from which on a lexer begins to look ahead.
+/// The minimum number of remaining bytes with which a lexer begins to look ahead.
 const BEGINS: usize = 7168;
-/// The number of remaining bytes from which on a lexer that looks ahead continues to do so.
+/// The minimum number of remaining bytes with which a lexer that looks ahead continues to do so.
 const FEWEST: usize = 2048;
 
-/// The items that a lexer has found ahead of its own offset. The value is small, so that it can be
-/// kept in registers.
+/// The items that a lexer has found ahead of its own offset. The value is small, so that the
+/// compiler can keep it in registers.
 pub(crate) struct Ahead {
-    /// The tokens of the room's word that are left: the bit of a byte is set if one ends before the
-    /// byte.
+    /// The bits of the tokens in the walk's word that have not been taken. The bit of a byte is set
+    /// if such a token ends before the byte.
     tokens: u64,
-    /// The byte offset of the input up to which match attempts find the items.
+    /// The byte offset up to which match attempts find the items.
     plain_to: usize,
+    /// The walk over the input, or `None` if the lexer has not looked ahead yet.
     room: Option<Room>,
 }
 
-/// The next step of a lexer whose word has no more tokens.
+/// The next step of a lexer that has taken all tokens of its word.
 pub(crate) enum Next {
-    /// The next items are those of the word.
+    /// The next items are the tokens of the word.
     Word,
-    /// Match attempts find the next items, from this byte offset on.
+    /// Match attempts find the next items. The first attempt begins at this byte offset.
     Attempts(usize),
-    /// The next item is a match of the leaf with this number, or an error if no leaf has the
-    /// number.
+    /// The next item has this span. It is a match of the leaf with this number, or an error if no
+    /// leaf has this number.
     Match(usize, Span),
-    /// The match attempt that begins at this byte offset is repeated.
+    /// The match attempt that begins at this byte offset must be repeated.
     Repeat(usize),
-    /// The lexer has returned all items of its part of an input, which end at this byte offset.
+    /// The lexer has returned all items of its part of an input. The next part has to begin at this
+    /// byte offset.
     End(usize),
 }
 
 impl Ahead {
-    /// The state of a lexer that has found no item ahead, and never will.
+    /// The state of a lexer that never looks ahead.
     pub(crate) const NONE: Ahead = Ahead {
         tokens: 0,
         plain_to: usize::MAX,
         room: None,
     };
 
-    /// Returns the state of a lexer at byte offset `from` of an input that has `len` bytes.
+    /// Returns the state of a new lexer at the byte offset `from` of an input of `len` bytes.
     #[inline(always)]
     pub(crate) fn new(from: usize, len: usize) -> Ahead {
         let is_short = len.wrapping_sub(from) < BEGINS + HESITATES;
@@ -65,8 +69,8 @@ impl Ahead {
         }
     }
 
-    /// Returns the state of a lexer at byte offset `from` of an input that has `len` bytes, where
-    /// it looks ahead in the same way as the lexer of `self`.
+    /// Returns the state of a new lexer at the byte offset `from` of an input of `len` bytes. The
+    /// new lexer looks ahead in the same way as the lexer with the state `self`.
     #[inline(always)]
     pub(crate) fn anew(&self, from: usize, len: usize) -> Ahead {
         match &self.room {
@@ -76,7 +80,7 @@ impl Ahead {
         }
     }
 
-    /// Returns the state of a lexer that looks ahead in the way `way` from its first item on.
+    /// Returns the state of a lexer that looks ahead according to `way` from its first item on.
     #[cold]
     pub(crate) fn by_way(way: Way) -> Ahead {
         Ahead {
@@ -86,7 +90,7 @@ impl Ahead {
         }
     }
 
-    /// Forgets the tokens of the word, since the lexer was moved.
+    /// Forgets the tokens of the word, and records that the lexer was moved.
     pub(crate) fn forget(&mut self) {
         self.tokens = 0;
         if let Some(room) = &mut self.room {
@@ -94,20 +98,21 @@ impl Ahead {
         }
     }
 
-    /// Returns whether a match attempt finds the item that begins at byte offset `end`.
+    /// Returns whether a match attempt finds the item that begins at the byte offset `end`.
     #[inline(always)]
     pub(crate) fn is_plain(&self, end: usize) -> bool {
         end < self.plain_to
     }
 
-    /// Returns the start of the token of the word that ends at byte offset `end` of the input.
+    /// Returns the start of the match that ends at the byte offset `end` of the input. The match
+    /// must end in the current word.
     #[inline(always)]
     pub(crate) fn start_of(&self, end: usize) -> usize {
         let room = self.room.as_ref();
         room.map_or(end, |room| room.word.start_of(end))
     }
 
-    /// Returns whether a token of the word is left.
+    /// Returns whether the word has a token that has not been taken.
     #[inline(always)]
     pub(crate) fn has_tokens(&self) -> bool {
         self.tokens != 0
@@ -128,8 +133,9 @@ impl Ahead {
         self.tokens &= self.tokens.wrapping_sub(1);
     }
 
-    /// Skips the tokens of the word that end at or before byte offset `end`, the new end of an item
-    /// that was made longer. Forgets the word if no match of the word ends there.
+    /// Skips the tokens of the word that end at or before the byte offset `end`, the new end of an
+    /// item that was made longer. Forgets all tokens of the word if no match of the word ends at
+    /// `end`.
     #[inline(always)]
     pub(crate) fn pass_to(&mut self, end: usize) {
         match &self.room {
@@ -140,7 +146,8 @@ impl Ahead {
         }
     }
 
-    /// Moves the end of the match of the word that ends at byte offset `end` one byte back.
+    /// Moves the end of a match back by one byte. The match must end at the byte offset `end`, in
+    /// the current word.
     #[inline(always)]
     pub(crate) fn end_before(&mut self, end: usize) {
         if let Some(room) = &mut self.room {
@@ -148,7 +155,8 @@ impl Ahead {
         }
     }
 
-    /// Moves to the next word of the chunk, and returns whether there is one.
+    /// Moves to the next word of the chunk, and returns `true`. Returns `false` if the chunk has no
+    /// next word, the current word is cut, or the lexer was moved.
     #[inline(always)]
     pub(crate) fn next_word(&mut self) -> bool {
         let next = self.room.as_mut().and_then(|room| room.next_word());
@@ -156,7 +164,7 @@ impl Ahead {
         next.is_some()
     }
 
-    /// Returns the state, and leaves `NONE` instead.
+    /// Returns the state, and replaces it with [`Ahead::NONE`].
     #[inline(always)]
     pub(crate) fn take(&mut self) -> Ahead {
         core::mem::replace(self, Ahead::NONE)
@@ -193,7 +201,7 @@ impl Ahead {
         T::refill(self, bytes)
     }
 
-    /// Walks over the next chunk if that saves time, and returns the next step of the lexer.
+    /// Walks over the next chunk if enough bytes remain. Returns the next step of the lexer.
     #[inline(always)]
     fn refill<'s, T: Tables<'s>>(&mut self, bytes: &[u8]) -> Next {
         let Some(room) = &mut self.room else {
@@ -215,8 +223,8 @@ impl Ahead {
         }
     }
 
-    /// Lets match attempts find the items from byte offset `from` up to `to`, and returns that
-    /// step.
+    /// Forgets the tokens of the word, and lets match attempts find the items from the byte offset
+    /// `from` up to `to`. Returns this step.
     fn attempts(&mut self, from: usize, to: usize) -> Next {
         self.forget();
         self.plain_to = to;
@@ -224,11 +232,12 @@ impl Ahead {
     }
 }
 
-/// The steps of a lexer that are called out of line. They are functions of the enum, so that the
-/// compiler puts them next to its `lex`, and has each table once in a program.
+/// The steps of a lexer that are called out of line. They are associated functions of the enum, so
+/// that the compiler puts them next to the enum's `lex`, and a program contains each table only
+/// once.
 pub(crate) trait Looks<'source>: Tables<'source> {
-    /// Returns the next step of a lexer whose last item ended at byte offset `end`, and the new
-    /// state.
+    /// Returns the new state and the next step of a lexer whose last item ended at the byte offset
+    /// `end`.
     #[inline(never)]
     fn go_on(mut ahead: Ahead, bytes: &[u8], end: usize) -> (Ahead, Next) {
         let next = ahead.next::<Self>(bytes, end);

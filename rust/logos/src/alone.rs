@@ -1,10 +1,10 @@
-//! The replacement of `ahead` in builds without `std`, in which a lexer finds no items ahead of its
-//! own offset. Used by `lexer` and `run`.
+//! The replacement for `ahead` in builds without `std`. In these builds a lexer finds no items
+//! ahead of its own offset. Used by `lexer` and `run`.
 
 use crate::Way;
 
-/// The setting that determines where a lexer looks ahead, of which only [`Way::Part`] has an effect
-/// here.
+/// The setting that determines where a lexer looks ahead. Without `std`, only [`Way::Part`] has an
+/// effect.
 pub(crate) struct Ahead {
     pub(crate) way: Way,
 }

@@ -1,27 +1,31 @@
-//! The characters that stay in a state, such as those of a comment. Used by `data`, `layout`,
-//! `loops`, `rows` and `folded`.
+//! The characters that lead from a state back to the same state, such as the characters of a
+//! comment. Used by `data`, `layout`, `loops`, `rows` and `folded`.
 //!
-//! If all inputs are UTF-8, a loop passes characters of more than one byte as it passes the bytes
-//! that stay. If all characters that begin with a byte lead from a state back to it, that byte
-//! stays, and so do the bytes that continue a character. Bytes that are in no text stay too: so the
-//! bytes that stay are in few ranges.
+//! If all inputs are UTF-8, fast loops also consume characters of more than one byte. A fast loop
+//! consumes the first byte of such a character only if all characters that begin with this byte
+//! lead from the state back to it. The fast loop then also consumes the bytes that continue a
+//! character, and the bytes that occur in no UTF-8 text, so that its bytes form few ranges.
 
 use crate::data::{Unpacked, END, SYMBOLS};
 use crate::layout::{continues, FIRST_CONTINUATION};
 
-/// The first bytes of characters that stay in a state: the bit of each byte from 0xC0 on.
+/// The first bytes of the characters of more than one byte that a fast loop consumes, as a set with
+/// a bit for each byte from 0xC0 on.
 pub(crate) type Leads = u64;
+/// The empty set of first bytes.
 pub(crate) const NO_LEADS: Leads = 0;
 
-/// The least byte with a bit in [`Leads`].
+/// The lowest byte that has a bit in [`Leads`].
 const FIRST_LEAD: usize = 0xC0;
-/// The bytes that begin characters of two bytes and of four, and the bytes from [`FIRST_LEAD`] on
-/// that are in no text.
+/// The bytes that begin characters of two bytes.
 const TWO: core::ops::Range<usize> = 0xC2..0xE0;
+/// The bytes that begin characters of four bytes.
 const FOUR: core::ops::Range<usize> = 0xF0..0xF5;
+/// The set of the bytes from [`FIRST_LEAD`] on that occur in no UTF-8 text.
 const NEVER: Leads = 0b11 | !0 << (FOUR.end - FIRST_LEAD);
 
-/// Returns whether a byte stays in a state, according to the characters that stay there.
+/// Returns whether a fast loop consumes `byte` because of the characters that begin with the bytes
+/// in `leads`.
 pub(crate) const fn stays(leads: Leads, byte: usize) -> bool {
     leads != NO_LEADS
         && (continues(byte as u8) || byte >= FIRST_LEAD && leads >> (byte - FIRST_LEAD) & 1 == 1)
@@ -32,7 +36,8 @@ const fn is_lead(byte: usize) -> bool {
     byte >= TWO.start && byte < FOUR.end
 }
 
-/// Returns the bits of the bytes from 0x80 to 0xBF that follow `lead` in text.
+/// Returns the set of the bytes that can follow the byte `lead` in UTF-8 text, with a bit for each
+/// byte from 0x80 to 0xBF.
 const fn second(lead: usize) -> u64 {
     match lead {
         0xE0 => !0 << 32,
@@ -44,9 +49,10 @@ const fn second(lead: usize) -> u64 {
 }
 
 impl<const STATES: usize, const RUNS: usize> Unpacked<STATES, RUNS> {
-    /// Returns the characters that stay in each state. They are in the loops over bytes that stay:
-    /// so there are none in a state in which no byte stays, and states that share a loop have equal
-    /// ones. There are none at all if a byte that continues a character is read between characters.
+    /// Returns, for each state, the first bytes of the characters that its fast loop consumes.
+    /// States that share a fast loop have equal sets. The sets of the root and of the states
+    /// without a fast loop are empty. All sets are empty if a byte that continues a character leads
+    /// to a state from a state that is not inside a character.
     pub(crate) const fn staying_leads(&self) -> [Leads; STATES] {
         let (mut by_loop, mut leads, mut state) = ([!NO_LEADS; STATES], [NO_LEADS; STATES], 0);
         while state < STATES {
@@ -69,7 +75,7 @@ impl<const STATES: usize, const RUNS: usize> Unpacked<STATES, RUNS> {
         leads
     }
 
-    /// Returns whether characters stay in any state.
+    /// Returns whether any fast loop consumes characters of more than one byte.
     pub(crate) const fn passes(&self) -> bool {
         let (mut all, mut state) = (NO_LEADS, 0);
         while state < STATES {
@@ -79,8 +85,8 @@ impl<const STATES: usize, const RUNS: usize> Unpacked<STATES, RUNS> {
         all != NO_LEADS
     }
 
-    /// Returns `rows`, which begin at the index `head`, with the entries of the characters that
-    /// stay. These entries are those of folded rows if `folded`.
+    /// Returns `rows` with the entries for the characters that fast loops consume. The rows begin
+    /// at the index `head`. `folded` is `true` if they are folded rows.
     pub(crate) const fn with_characters<const N: usize>(
         &self,
         rows: [u32; N],
@@ -116,7 +122,8 @@ impl<const STATES: usize, const RUNS: usize> Unpacked<STATES, RUNS> {
         rows
     }
 
-    /// Returns the characters that lead from a state back to it.
+    /// Returns the first bytes of the characters that lead from `state` back to it. If there are
+    /// any, the set also contains the bytes that occur in no UTF-8 text.
     const fn leads_of(&self, state: usize) -> Leads {
         let (mut by_classes, mut class, row) = ([0; SYMBOLS], 0, &self.rows[state]);
         let (mut run, mut past) = (row.run, 0);
@@ -142,8 +149,8 @@ impl<const STATES: usize, const RUNS: usize> Unpacked<STATES, RUNS> {
         leads | NEVER
     }
 
-    /// Returns whether all characters that begin with the byte `lead`, whose step in `state` is
-    /// `step`, lead back to `state` without a match on their way.
+    /// Returns whether all characters that begin with the byte `lead` lead from `state` back to it
+    /// without a match on the way. `step` is the step of `lead` in `state`.
     const fn leads_back(&self, state: usize, lead: usize, step: usize) -> bool {
         let mut left = 1 + (lead >= TWO.end) as usize + (lead >= FOUR.start) as usize;
         let (mut step, mut valid) = (step, second(lead));

@@ -1,4 +1,4 @@
-//! The entries for a chunk of an input, computed with folded tables. Called by `walk`.
+//! Computes the entries of the bytes of a chunk with folded tables. Called by `walk`.
 
 use crate::folded::{leaf_of, Folded, ENDED, OFFSET_MASK};
 use crate::guess::{guess_parts, Guesser, Guesses, AGAIN, LEAST_PART};
@@ -6,60 +6,64 @@ use crate::internal::Tables;
 use crate::Span;
 use std::boxed::Box;
 
-/// The number of bytes of a block, and the number of blocks of a chunk, which are processed at
-/// once.
+/// The number of bytes in a block.
 pub(crate) const BLOCK: usize = 768;
+/// The number of blocks in a chunk. They are processed in parallel.
 pub(crate) const BLOCKS: usize = 6;
-/// The number of bytes of a block that are processed in one step.
+/// The number of bytes of each block that one iteration of a walk processes.
 const STEPS: usize = 6;
 const _: () = assert!(BLOCK % STEPS == 0);
-/// The number of bytes of each block that are examined at once for bytes that are not ASCII.
+/// The number of bytes of each block that are tested at once for bytes that are not ASCII.
 const SPAN: usize = 24;
 const _: () = assert!(BLOCK % SPAN == 0 && SPAN % STEPS == 0 && STEPS <= 8);
+/// The number of bytes in a chunk.
 pub(crate) const CHUNK: usize = BLOCKS * BLOCK;
-/// The number of bytes of a word, which has a bit for each of them, and the number of words of a
-/// chunk.
+/// The number of bytes in a word, which has a bit for each byte.
 pub(crate) const WORD: usize = 64;
+/// The number of words in a chunk.
 const WORDS: usize = CHUNK / WORD;
-/// The number of bytes of a block within which most walks from a wrong row reach the right one.
+/// The number of bytes within which most walks that begin in a wrong row reach the right row.
 const SOON: usize = 48;
-/// The number of bytes of each block that second walks process at once.
+/// The number of bytes of each block that a second walk processes between two comparisons with the
+/// first walk.
 const PART: usize = 96;
 const _: () = assert!(BLOCK % PART == 0 && PART % STEPS == 0);
-/// The last block whose wrong guess leads to a second walk over all blocks at once.
+/// The greatest index of a block at which a wrong guess can lead to a second walk over the blocks.
 const LAST_SECOND: usize = BLOCKS - 3;
 
 /// The matches that a walk over a chunk has found.
 pub(crate) struct Chunk {
     /// The entry of each byte.
     trace: [u32; CHUNK],
-    /// The words of the chunk: the bit of a byte in `ends` is set if a match ends before the byte,
-    /// and that in `tokens` if a token ends there. A bit that is set only in `tokens` marks a byte
-    /// that needs a separate match attempt.
+    /// The words of the chunk in which the bit of a byte is set if a match ends before the byte.
     ends: [u64; WORDS],
+    /// The words of the chunk in which the bit of a byte is set if a token ends before the byte. A
+    /// bit that is set here but not in `ends` marks a byte that needs a separate match attempt.
     tokens: [u64; WORDS],
-    /// The entries of the latest second walk, or `None` before the first one.
+    /// The entries of the latest second walk, or `None` if there was no second walk.
     others: Option<Box<[u32; CHUNK]>>,
 }
 
 /// The result of a second walk over all blocks but the first.
 struct Second {
-    /// The row offset before each block, that after the bytes that were walked over, and the number
-    /// of these bytes in each block.
+    /// The row offset before each block.
     before: [u32; BLOCKS],
+    /// The row offset after the processed bytes of each block.
     after: [u32; BLOCKS],
+    /// The number of processed bytes of each block.
     len: usize,
 }
 
-/// The result of a walk over a whole chunk, or over fewer bytes.
+/// The result of a walk over at most one chunk.
 pub(crate) struct Walked {
     /// The row offset after the last byte.
     pub(crate) row_start: u32,
-    /// The cost of guesses, and of bytes that were processed again.
+    /// The cost of the guesses, and of the bytes that were processed again.
     pub(crate) cost: usize,
 }
 
 impl Chunk {
+    /// A chunk without matches.
     pub(crate) const NEW: Chunk = Chunk {
         trace: [0; CHUNK],
         ends: [0; WORDS],
@@ -67,20 +71,20 @@ impl Chunk {
         others: None,
     };
 
-    /// Returns the leaf in the entry of byte `at` of the chunk, or `None` if the chunk has no such
-    /// byte.
+    /// Returns the leaf in the entry at the index `at` of the chunk, as [`leaf_of`] does, or `None`
+    /// if the index is out of bounds.
     #[inline(always)]
     pub(crate) fn leaf(&self, at: usize) -> Option<usize> {
         Some(leaf_of(*self.trace.get(at)?))
     }
 
-    /// Returns the row offset after byte `at` of the chunk.
+    /// Returns the row offset after the byte at the index `at` of the chunk.
     pub(crate) fn row_start(&self, at: usize) -> u32 {
         self.trace[at] & OFFSET_MASK
     }
 
-    /// Returns the bits of the word with byte `at` of the chunk, those of ends and those of tokens;
-    /// or zeros if the chunk has no such byte.
+    /// Returns the bits of ends and the bits of tokens of the word that contains the byte at the
+    /// index `at` of the chunk. Returns zeros if the index is out of bounds.
     #[inline(always)]
     pub(crate) fn bits(&self, at: usize) -> (u64, u64) {
         let word = at / WORD;
@@ -90,8 +94,8 @@ impl Chunk {
         }
     }
 
-    /// Sets the bits of the words with the bytes from `from` up to `to`, by the entries of these
-    /// words.
+    /// Computes the bits of the words that contain the bytes from `from` up to `to`, from the
+    /// entries of these words.
     pub(crate) fn set_bits(&mut self, from: usize, to: usize) {
         for word in from / WORD..to.div_ceil(WORD).min(WORDS) {
             let trace = self.trace[WORD * word..].first_chunk();
@@ -101,7 +105,8 @@ impl Chunk {
         }
     }
 
-    /// Sets the bits of the bytes from `from` up to `to`, which are few, by their entries.
+    /// Computes the bits of the bytes from `from` up to `to`, one by one, from their entries. Used
+    /// for few bytes.
     pub(crate) fn set_few_bits(&mut self, from: usize, to: usize) {
         for (at, entry) in self.trace[..to].iter().enumerate().skip(from) {
             let (word, bit) = (at / WORD, at % WORD);
@@ -111,9 +116,9 @@ impl Chunk {
         }
     }
 
-    /// Walks over all bytes of a chunk, and returns the row offset after the chunk and the cost.
-    /// The first block begins in the row at `row_start`, the other blocks begin in rows that
-    /// `guesser` guesses.
+    /// Walks over all bytes of a chunk. The first block begins in the row at `row_start`, and
+    /// `guesser` guesses the rows in which the other blocks begin. Returns the row offset after the
+    /// chunk, and the cost.
     #[inline]
     pub(crate) fn walk<'s, T: Tables<'s>>(
         &mut self,
@@ -133,8 +138,8 @@ impl Chunk {
         walked
     }
 
-    /// Walks again over the blocks whose rows were guessed wrong, as far as that changes entries.
-    /// Returns the row offset after the chunk, and the cost.
+    /// Repairs the entries of the blocks whose rows were guessed wrong. `row_starts` contains the
+    /// row offset after each block. Returns the row offset after the chunk, and the cost.
     #[inline]
     fn repair<'s, T: Tables<'s>>(
         &mut self,
@@ -180,7 +185,8 @@ impl Chunk {
         Walked { row_start, cost }
     }
 
-    /// Walks over all blocks but the first a second time, from the rows at `before`.
+    /// Walks a second time over all blocks but the first. `before` contains the row offset in which
+    /// each block begins.
     #[cold]
     fn walk_second<'s, T: Tables<'s>>(
         &mut self,
@@ -192,9 +198,10 @@ impl Chunk {
         Second { before, after, len }
     }
 
-    /// Copies the entries of block `k` from its second walk. Returns the row offset after the
-    /// block, or `Some(None)` if that of the first walk remains. Returns `None`, and copies
-    /// nothing, unless there was a second walk over the block from the row at `right`.
+    /// Copies the entries of the block at the index `k` from the second walk, if the block begins
+    /// in the row at `right` in this walk. Returns the row offset after the block, or `Some(None)`
+    /// if the row offset of the first walk remains. Returns `None`, and copies nothing, if the
+    /// block begins in another row or there was no second walk.
     #[inline]
     fn take_second(
         &mut self,
@@ -211,8 +218,9 @@ impl Chunk {
         Some((*len == BLOCK).then_some(after[k]))
     }
 
-    /// Walks again over the parts, of `size` bytes each, whose rows were guessed wrong, as far as
-    /// that changes entries. Returns the row offset after the last part, and the cost.
+    /// Repairs the entries of the parts whose rows were guessed wrong. Each part has `size` bytes.
+    /// `row_starts` contains the row offset after each part. Returns the row offset after the last
+    /// part, and the cost.
     #[inline]
     fn repair_parts<'s, T: Tables<'s>>(
         &mut self,
@@ -240,9 +248,9 @@ impl Chunk {
         walked
     }
 
-    /// Walks over `rest`, which has fewer bytes than a chunk, from the row at `row_start` on: in
-    /// parallel parts, and over the last bytes one at a time. Returns the row offset after `rest`,
-    /// and the cost.
+    /// Walks over `rest`, which has fewer bytes than a chunk, from the row at `row_start` on. If
+    /// there are enough bytes, processes parts of `rest` in parallel. Processes the remaining bytes
+    /// one at a time. Returns the row offset after `rest`, and the cost.
     #[inline]
     pub(crate) fn walk_rest<'s, T: Tables<'s>>(&mut self, rest: &[u8], row_start: u32) -> Walked {
         let size = rest.len() / BLOCKS;
@@ -264,9 +272,9 @@ impl Chunk {
         walked
     }
 
-    /// Walks again over the bytes in `range`, from the row at `row_start` on, up to the first byte
-    /// after which the trace has the same row, and sets their entries. Returns the offset after
-    /// that byte, or the end of `range` if there is none, and the row offset there.
+    /// Walks again over the bytes in `range`, from the row at `row_start` on, and sets their
+    /// entries. Stops after the first byte that leads to the same row as before. Returns the index
+    /// after the last processed byte, and the row offset after this byte.
     #[inline]
     pub(crate) fn walk_again<'s, T: Tables<'s>>(
         &mut self,
@@ -287,8 +295,8 @@ impl Chunk {
         (range.end, row_start)
     }
 
-    /// Returns the number of bytes that need a separate match attempt, in the words up to byte
-    /// `to`.
+    /// Returns the number of bytes that need a separate match attempt, in the words that begin
+    /// before the index `to`.
     pub(crate) fn undecided(&self, to: usize) -> usize {
         let words = self.ends.iter().zip(&self.tokens).take(to.div_ceil(WORD));
         let words = words.map(|(ends, tokens)| tokens & !ends);
@@ -299,8 +307,9 @@ impl Chunk {
         words.map(|word| word.count_ones() as usize).sum()
     }
 
-    /// Samples one of every `one_of` words up to byte `to`, and returns three counts: the bytes of
-    /// the sample, the matches that end there, and the states that are entered there.
+    /// Samples one of every `one_of` words before the index `to`. Returns the number of bytes in
+    /// the sample, the number of matches that end in the sample, and the number of states that are
+    /// entered in it.
     pub(crate) fn sample(&self, to: usize, one_of: usize) -> [usize; 3] {
         let mut sums = [0; 3];
         for word in (0..(to / WORD).min(WORDS)).step_by(one_of) {
@@ -313,8 +322,8 @@ impl Chunk {
     }
 }
 
-/// Returns how many bytes of a word but the first lead to another state, or have a match that ends
-/// before them.
+/// Returns the number of bytes of a word, without the first byte, that lead to another state or
+/// before which a match ends.
 fn entered(trace: &[u32; WORD]) -> usize {
     let mut entered = 0;
     for at in 1..WORD {
@@ -324,11 +333,12 @@ fn entered(trace: &[u32; WORD]) -> usize {
     entered as usize
 }
 
-/// The walks over blocks, which are called out of line. They are functions of the enum, so that the
-/// compiler puts them next to its `lex`, and has each table once in a program.
+/// The walks over blocks, which are called out of line. They are associated functions of the enum,
+/// so that the compiler puts them next to the enum's `lex`, and a program contains each table
+/// only once.
 trait Blocks<'source>: Tables<'source> {
-    /// Walks over all blocks in parallel, each from its row, and sets their entries in `trace`.
-    /// Returns the row offsets after the blocks.
+    /// Walks over all blocks in parallel, and writes their entries to `trace`. Each block begins in
+    /// its row in `row_starts`. Returns the row offsets after the blocks.
     #[inline(never)]
     fn walk_blocks(
         input: &[u8; CHUNK],
@@ -354,8 +364,8 @@ trait Blocks<'source>: Tables<'source> {
         row_starts.map(|row_start| row_start & OFFSET_MASK)
     }
 
-    /// Like [`Blocks::walk_blocks`], if there are states without a row. While all blocks have only
-    /// ASCII, no step is in such a state, unless the input is no text.
+    /// Like [`Blocks::walk_blocks`], for lexers that have states without a row. While the bytes of
+    /// all blocks are ASCII, no byte is read in such a state, unless the input is not UTF-8.
     #[inline(never)]
     fn walk_characters(
         input: &[u8; CHUNK],
@@ -397,9 +407,9 @@ trait Blocks<'source>: Tables<'source> {
         row_starts.map(|row_start| row_start & OFFSET_MASK)
     }
 
-    /// Walks over the bytes in `range` of each block, of which some of the first ones are not
-    /// ASCII, and sets their entries in `trace`. Ends before bytes that are ASCII in all blocks.
-    /// Returns the last entry of each block, and the end.
+    /// Walks over the bytes of each block at the indices in `range`, and writes their entries to
+    /// `trace`. Stops before bytes that are ASCII in all blocks. Returns the last entry of each
+    /// block, and the index at which the walk stopped.
     #[inline(never)]
     fn step_characters(
         input: &[u8; CHUNK],
@@ -442,8 +452,8 @@ trait Blocks<'source>: Tables<'source> {
         (row_starts, at)
     }
 
-    /// Walks over parts of `size` bytes in parallel, each from its row, and sets their entries in
-    /// `trace`. Returns the row offsets after the parts.
+    /// Walks over parts of `size` bytes in parallel, and writes their entries to `trace`. Each part
+    /// begins in its row in `row_starts`. Returns the row offsets after the parts.
     #[inline(never)]
     fn walk_parts(
         rest: &[u8],
@@ -470,9 +480,10 @@ trait Blocks<'source>: Tables<'source> {
         row_starts.map(|row_start| row_start & OFFSET_MASK)
     }
 
-    /// Walks over all blocks but the first in parallel, each from its row, until all are in the
-    /// rows of `trace`, and sets their entries in `others`. Returns the row offsets there, and the
-    /// number of bytes of each block that were walked over.
+    /// Walks in parallel over all blocks but the first, and writes their entries to `others`. Each
+    /// block begins in its row in `row_starts`. The walk stops when all blocks are in the same rows
+    /// as in `trace`. Returns the row offsets at this point, and the number of processed bytes of
+    /// each block.
     #[inline(never)]
     fn walk_others(
         input: &[u8; CHUNK],
@@ -513,8 +524,8 @@ trait Blocks<'source>: Tables<'source> {
 
 impl<'source, T: Tables<'source>> Blocks<'source> for T {}
 
-/// Returns a value with a set bit if one of the eight bytes from `from` on of any block is not
-/// ASCII, otherwise 0.
+/// Returns the union of the highest bits of the eight bytes from the index `from` on, over all
+/// blocks. The result is 0 if all these bytes are ASCII.
 #[inline(always)]
 fn high_bits(blocks: &[&[u8; BLOCK]; BLOCKS], from: usize) -> u64 {
     let eights = blocks.iter().map(|block| block[from..].first_chunk());
@@ -524,9 +535,9 @@ fn high_bits(blocks: &[&[u8; BLOCK]; BLOCKS], from: usize) -> u64 {
     all & 0x8080_8080_8080_8080
 }
 
-/// Writes the flags of the entries of a word to `to`: the flags of every fourth entry of each half
-/// are in one number, four bits apart. The function is not inlined and writes to memory, so that
-/// the compiler makes vectors.
+/// Writes the flags of the entries of a word to `to`. Each number in `to` contains the flags of
+/// every fourth entry of one half of the word, four bits apart. The function is not inlined and
+/// writes to memory, so that the compiler vectorizes it.
 #[inline(never)]
 fn gather(trace: &[u32; WORD], to: &mut [u32; 8]) {
     let (low, high) = trace.split_at(WORD / 2);
@@ -540,8 +551,8 @@ fn gather(trace: &[u32; WORD], to: &mut [u32; 8]) {
     *to = flags;
 }
 
-/// Returns the bits of ends and the bits of tokens of a word, given its flags as [`gather`] writes
-/// them.
+/// Returns the bits of ends and the bits of tokens of a word, from the flags that [`gather`] has
+/// written for the word.
 #[inline(always)]
 fn bits_of(flags: &[u32; 8]) -> (u64, u64) {
     const FOURTHS: u64 = 0x1111_1111_1111_1111;
@@ -554,8 +565,8 @@ fn bits_of(flags: &[u32; 8]) -> (u64, u64) {
     (ends, tokens)
 }
 
-/// Returns the entry of `byte` in the row at `row_start`, which may have the upper bits of an
-/// entry.
+/// Returns the entry of `byte` in the row at `row_start`. Ignores the upper bits of `row_start`,
+/// which can therefore be an entry.
 #[inline(always)]
 pub(crate) fn step<'s, T: Tables<'s>>(byte: u8, row_start: u32) -> u32 {
     T::entry_of(byte, row_start)

@@ -1,5 +1,5 @@
-//! The tables of a lexer in the form of generated code, and unpacked. Used by `rows`, `folded`,
-//! `loops` and `layout`.
+//! The tables of a lexer, in the packed form of generated code and in unpacked form. Used by
+//! `rows`, `folded`, `loops` and `layout`.
 
 use crate::characters::{Leads, NO_LEADS};
 use crate::internal::Tables;
@@ -7,32 +7,32 @@ use crate::layout::{continuing, others_before, Layout};
 use crate::loops::Mask;
 use crate::Source;
 
-/// The number of symbols: each byte, and the end of the input.
+/// The number of symbols: all bytes, and the end of the input.
 pub(crate) const SYMBOLS: usize = 257;
 /// The symbol for the end of the input.
 pub(crate) const END: usize = 256;
 /// The maximum number of states for which a row has an entry for each byte.
 const FEW: usize = 300;
-/// The number of columns of a row that has an entry for each byte. At a distance of a power of two,
-/// the entries of a byte in all rows would share a few cache lines.
+/// The number of columns of a row that has an entry for each byte. If it were a power of two, the
+/// entries of a byte in all rows would compete for a few cache lines.
 pub(crate) const BYTES: usize = 272;
 
-/// A sequence of numbers: the size of each number in bytes, and the bytes of all numbers, each with
-/// the lowest byte first.
+/// A sequence of numbers, as the size of each number in bytes, and the bytes of all numbers in
+/// little-endian order.
 pub type Numbers = (usize, &'static [u8]);
 
 /// The tables of a lexer in the form of generated code.
 ///
-/// A symbol is a byte, or the end of the input. Symbols of one class have the same step in each
-/// state. A state has a row with a step for each class. A step is 0 if it leads to no state, 1 if
-/// the byte stays in the state, otherwise 2 plus the next state.
+/// A symbol is a byte or the end of the input. The symbols of a class have equal steps in each
+/// state. Each state has a row, which has a step for each class. A step is 0 if it leads to no
+/// state, 1 if the symbol does not change the state, and otherwise 2 plus the next state.
 #[derive(Clone, Copy)]
 pub struct Data {
     /// The state in which each match attempt begins.
     pub root: usize,
     /// The number of classes.
     pub width: usize,
-    /// The number of symbols in each run of symbols of one class.
+    /// The number of symbols in each run of consecutive symbols of one class.
     pub class_lengths: Numbers,
     /// The class of each run of `class_lengths`.
     pub classes: Numbers,
@@ -42,62 +42,70 @@ pub struct Data {
     pub steps: Numbers,
     /// The index of each state's row.
     pub rows: Numbers,
-    /// The mark of each state: 0 if it has none, otherwise 2 plus twice the leaf of a match that
-    /// ends there, plus 1 if the match ends one byte before.
+    /// The mark of each state. It is 0 if the state has no mark. Otherwise it is 2 plus twice the
+    /// leaf whose match the state records, plus 1 if the match ends one byte before the state.
     pub marks: Numbers,
-    /// For each leaf 1 if its matches are skipped without a callback, otherwise 0.
+    /// A number for each leaf: 1 if its matches are skipped without a callback, and 0 otherwise.
     pub skips: Numbers,
 }
 
-/// Consecutive equal steps.
+/// A run of equal steps.
 #[derive(Clone, Copy)]
 pub(crate) struct Run {
     pub(crate) length: usize,
     pub(crate) step: usize,
 }
 
-/// A row of steps.
+/// A row, which has a step for each class.
 #[derive(Clone, Copy)]
 pub(crate) struct Row {
-    /// The index of the run that has the first step, and the number of steps of that run that
-    /// belong to earlier rows.
+    /// The index of the run that contains the first step of the row.
     pub(crate) run: usize,
+    /// The number of steps of this run that belong to earlier rows.
     pub(crate) passed: usize,
     /// Whether any step of the row leads to a state.
     pub(crate) leads: bool,
-    /// Whether a byte leads to another state, no byte stays, and no symbol leads to a state except
-    /// bytes that continue a character.
+    /// Whether the state of the row is inside a character: a byte leads to another state, no byte
+    /// leads back to the same state, and the end of the input and the bytes that do not continue a
+    /// character lead to no state.
     pub(crate) is_inside: bool,
-    /// The first two distinct steps of bytes that continue a character; their number, or 3 if there
-    /// are more; and the bits of the bytes with the second step. They are complete if `is_inside`.
+    /// The first two distinct steps of the bytes that continue a character. This field, `kinds` and
+    /// `bits` are complete only if `is_inside` is `true`.
     pub(crate) steps: [usize; 2],
+    /// The number of distinct steps of the bytes that continue a character, or 3 if there are more
+    /// than two.
     pub(crate) kinds: u8,
+    /// The set of the bytes that continue a character and have the second step.
     pub(crate) bits: u64,
-    /// The number of bytes that stay in the state.
+    /// The number of bytes that do not change the state.
     pub(crate) staying: u16,
-    /// The number of earlier rows in which a byte stays.
+    /// The number of earlier rows with a fast loop.
     pub(crate) number: usize,
     /// Whether a byte that continues a character leads to a state.
     pub(crate) continues: bool,
 }
 
-/// The tables of a lexer, unpacked. They exist only at compile time.
+/// The tables of a lexer in unpacked form. They exist only at compile time.
 pub struct Unpacked<const STATES: usize, const RUNS: usize> {
+    /// The tables in packed form.
     pub(crate) data: Data,
     /// The class of each symbol.
     pub(crate) classes: [u16; SYMBOLS],
+    /// The runs of equal steps in the concatenated rows.
     pub(crate) runs: [Run; RUNS],
     /// The row of each state.
     pub(crate) rows: [Row; STATES],
     /// The mark of each state.
     pub(crate) marks: [u32; STATES],
-    /// The characters that stay in each state.
+    /// The first bytes of the characters that the fast loop of each state consumes.
     pub(crate) leads: [Leads; STATES],
-    /// The number of distinct rows in which a byte stays.
+    /// The number of distinct rows with a fast loop.
     pub(crate) loops: usize,
-    /// The number of each state, the layout of the rows, and the column of each class.
+    /// The number of each state.
     pub(crate) number: [u32; STATES],
+    /// The layout of the rows.
     pub(crate) layout: Layout,
+    /// The column of each class, followed by the number of columns.
     pub(crate) of_classes: [u16; SYMBOLS + 1],
 }
 
@@ -117,21 +125,22 @@ impl Unpacked<0, 0> {
     };
 }
 
-/// The values of the constants of a lexer. Each value is made from the enum, and not from another
-/// constant: when rustc only checks a package, it evaluates each constant that another constant
-/// names, and leaves the others to builds.
+/// Functions that compute the values of the constants of a lexer. Each value is computed from the
+/// enum, and not from another constant: when rustc only checks a package, it evaluates each
+/// constant that another constant names, and leaves the other constants to builds.
 ///
 /// # Panics
 ///
 /// Each function panics if a const parameter is not the number that the tables require.
 impl<const STATES: usize, const RUNS: usize> Unpacked<STATES, RUNS> {
-    /// Returns the tables of the lexer of `T`, unpacked.
+    /// Returns the tables of the lexer of `T` in unpacked form.
     pub const fn new<'source, T: Tables<'source>>() -> Self {
         T::DATA.unpacked(<T::Source as Source>::IS_TEXT)
     }
 
-    /// Returns the rows of a lexer if they have an entry for each byte: an entry for each state and
-    /// column, and 256 more entries. Otherwise returns zeros, and `layout::Made` has the rows.
+    /// Returns the rows of a lexer if they have an entry for each byte. The array then has an entry
+    /// for each state and column, and 256 additional entries. Otherwise returns zeros, since
+    /// `layout::Made` has the rows.
     pub const fn rows<'source, T, const N: usize>() -> [u32; N]
     where
         T: Tables<'source, Unpacked = Self>,
@@ -150,7 +159,7 @@ impl<const STATES: usize, const RUNS: usize> Unpacked<STATES, RUNS> {
         T::UNPACKED.all_lasts()
     }
 
-    /// Returns the masks of the loops of a lexer. Their number is a power of two.
+    /// Returns the masks of the fast loops of a lexer. The number of masks is a power of two.
     pub const fn masks<'source, T, const LOOPS: usize>() -> [Mask; LOOPS]
     where
         T: Tables<'source, Unpacked = Self>,
@@ -158,8 +167,8 @@ impl<const STATES: usize, const RUNS: usize> Unpacked<STATES, RUNS> {
         T::UNPACKED.all_masks()
     }
 
-    /// Returns the folded tables of a lexer if its rows have an entry for each byte, otherwise
-    /// zeros.
+    /// Returns the folded tables of a lexer if its rows have an entry for each byte, and zeros
+    /// otherwise.
     pub const fn folded<'source, T, const N: usize>() -> [u32; N]
     where
         T: Tables<'source, Unpacked = Self>,
@@ -176,7 +185,7 @@ const fn count(numbers: &Numbers) -> usize {
     numbers.1.len() / numbers.0
 }
 
-/// Returns the element of `numbers` with index `n`.
+/// Returns the element of `numbers` at the index `n`.
 const fn number(numbers: &Numbers, n: usize) -> usize {
     let (size, bytes) = *numbers;
     let (mut number, mut at) = (0, size * (n + 1));
@@ -244,12 +253,12 @@ impl Data {
         classes
     }
 
-    /// Returns these tables unpacked. `is_text` is whether all inputs are UTF-8.
+    /// Returns the tables in unpacked form. `is_text` is `true` if all inputs are UTF-8.
     ///
     /// # Panics
     ///
-    /// Panics if `STATES` and `RUNS` are not the numbers of the states and of the runs, or if the
-    /// tables name a class, a row, a state or a leaf that does not exist.
+    /// Panics if `STATES` is not the number of states, if `RUNS` is not the number of runs, or if
+    /// the tables name a class, a row, a state or a leaf that does not exist.
     const fn unpacked<const STATES: usize, const RUNS: usize>(
         &self,
         is_text: bool,
@@ -314,8 +323,9 @@ impl Data {
         runs
     }
 
-    /// Returns the distinct rows, their number, and the number of those in which a byte stays. The
-    /// parameters have the results of [`bytes_before`], [`others_before`] and [`continuing`].
+    /// Returns the distinct rows, the number of distinct rows, and the number of distinct rows with
+    /// a fast loop. `before` contains the results of [`bytes_before`] and [`others_before`], and
+    /// `continuing` is the result of the function [`continuing`].
     const fn distinct<const STATES: usize>(
         &self,
         runs: &[Run],
@@ -388,7 +398,7 @@ impl Data {
     }
 }
 
-/// Returns for each class the number of bytes in lower classes.
+/// Returns, for each class, the number of bytes in lower classes.
 const fn bytes_before(classes: &[u16; SYMBOLS]) -> [u16; SYMBOLS + 1] {
     let (mut before, mut byte, mut class) = ([0; SYMBOLS + 1], 0, 0);
     while byte < END {

@@ -1,48 +1,54 @@
-//! Guesses of the rows in which blocks begin. Called by `chunk`.
+//! Guesses the rows in which blocks begin. Called by `chunk`.
 
 use crate::chunk::{step, BLOCK, BLOCKS, CHUNK};
 use crate::folded::{Folded, OFFSET_MASK};
 use crate::internal::Tables;
 
-/// The numbers of bytes before a block that are examined: to guess its row, and to find a line end.
+/// The number of bytes before a block that are examined to guess the row of the block.
 const NEAR: usize = 32;
+/// The number of bytes before a block that are searched for a line end.
 const FAR: usize = 384;
-/// The least number of bytes that are walked over as a part of their own.
+/// The minimum number of bytes in a part that is processed in parallel with other parts.
 pub(crate) const LEAST_PART: usize = 2 * NEAR;
-/// The cost of each byte that is processed again, and of each that a guess by lines examines.
+/// The cost of each byte that is processed again.
 pub(crate) const AGAIN: usize = 24;
+/// The cost of each byte that a line-based guess examines.
 const EXAMINE: usize = 10;
-/// The number of counters for pairs of candidates, and the greatest count.
+/// The number of counters for pairs of candidates.
 const COUNTERS: usize = 64;
+/// The maximum absolute value of a counter.
 const MOST: i8 = 8;
 
-/// Guesses of the row offsets of the blocks of a chunk.
+/// The guessed row offsets of the blocks of a chunk.
 pub(crate) struct Guesses {
-    /// The guesses with which the blocks are walked over.
+    /// The row offsets in which the first walk over the blocks begins.
     pub(crate) first: [u32; BLOCKS],
-    /// The second candidates for the row offsets of the blocks, if these were guessed.
+    /// The second candidates for the row offsets of the blocks, or `None` if there are no second
+    /// candidates.
     second: Option<[u32; BLOCKS]>,
-    /// Whether the first guesses are by lines, and the number of bytes that were examined for
-    /// these.
+    /// Whether the guesses in `first` are line-based.
     by_lines: bool,
+    /// The number of bytes that were examined for line-based guesses.
     looked: usize,
 }
 
-/// The knowledge from earlier chunks by which rows are guessed.
+/// A guesser of rows, with statistics about earlier chunks.
 pub(crate) struct Guesser {
-    /// The row offset before the last bytes of a block, from which the second candidate of the next
-    /// block is computed. It is the latest one before a block whose row was no candidate.
+    /// The row offset from which second candidates are computed. It is the row offset [`NEAR`]
+    /// bytes before the latest block for which no candidate was right.
     other: u32,
-    /// For pairs of candidates, by their hash, how much more often the lower one was right than the
-    /// higher one.
+    /// The counters for pairs of candidates, indexed by the hash of a pair. A counter states how
+    /// much more often the lower candidate was right than the higher candidate.
     counters: [i8; COUNTERS],
     /// Whether a walk from a guess in the last chunk did not soon reach the right row.
     pub(crate) missed: bool,
-    /// The recent cost in a chunk of guesses by few bytes, and that of guesses by lines.
+    /// The average cost of recent chunks with guesses from few bytes, and of recent chunks with
+    /// line-based guesses.
     costs: [usize; 2],
 }
 
 impl Guesser {
+    /// A guesser without statistics.
     pub(crate) const NEW: Guesser = Guesser {
         other: 0,
         counters: [0; COUNTERS],
@@ -50,7 +56,8 @@ impl Guesser {
         costs: [0, EXAMINE * 500],
     };
 
-    /// Guesses the row offsets of the blocks of a chunk, with the kind of guesses that costs less.
+    /// Guesses the row offsets of the blocks of a chunk. Uses the kind of guesses that has cost
+    /// less in recent chunks.
     #[inline]
     pub(crate) fn guess<'s, T: Tables<'s>>(&mut self, input: &[u8; CHUNK]) -> Guesses {
         let by_lines = self.costs[1] < self.costs[0];
@@ -74,8 +81,8 @@ impl Guesser {
         guesses
     }
 
-    /// Adds second candidates to `guesses`, and exchanges the two of a block if the second one was
-    /// more often right.
+    /// Adds second candidates to `guesses`. Swaps the first and the second candidate for a block if
+    /// the second one has been right more often.
     fn add_second<'s, T: Tables<'s>>(&self, input: &[u8; CHUNK], guesses: &mut Guesses) {
         let mut second = T::guess_others(input, self.other);
         for (first, second) in guesses.first.iter_mut().zip(&mut second) {
@@ -87,8 +94,9 @@ impl Guesser {
         guesses.second = Some(second);
     }
 
-    /// Returns the row offsets from which a second walk begins, after a miss at block `k`, whose
-    /// right row offset is `right`. Adds second candidates to `guesses` if there are none.
+    /// Returns the row offsets in which a second walk over the blocks begins, after the guess for
+    /// the block at the index `k` was wrong. `right` is the right row offset of this block. Adds
+    /// second candidates to `guesses` if there are none.
     pub(crate) fn second<'s, T: Tables<'s>>(
         &mut self,
         input: &[u8; CHUNK],
@@ -105,7 +113,8 @@ impl Guesser {
         row_starts
     }
 
-    /// Records which candidate for block `k` was right, given its right row offset.
+    /// Records which candidate for the block at the index `k` was right. `right` is the right row
+    /// offset of the block.
     #[inline]
     pub(crate) fn learn(&mut self, guesses: &Guesses, k: usize, right: u32) {
         let first = guesses.first[k];
@@ -119,9 +128,9 @@ impl Guesser {
         }
     }
 
-    /// Records that the walk from the guess for block `k` did not soon reach the right row. If the
-    /// second candidate was not right either, later ones are computed from the row before the
-    /// block's guess.
+    /// Records that the walk from the guess for the block at the index `k` did not soon reach the
+    /// right row. If the second candidate for the block was not right either, later second
+    /// candidates are computed from the row that `trace` has [`NEAR`] bytes before this block.
     pub(crate) fn miss(&mut self, guesses: &Guesses, k: usize, right: u32, trace: &[u32; CHUNK]) {
         self.missed = true;
         if guesses.second.map(|it| it[k]) != Some(right) {
@@ -129,8 +138,9 @@ impl Guesser {
         }
     }
 
-    /// Returns the cost of a chunk in which `again` bytes were processed again, and records it. The
-    /// recorded cost of the other kind of guesses decreases, so that it is tried again at times.
+    /// Returns and records the cost of a chunk in which `again` bytes were processed again.
+    /// Decreases the recorded cost of the other kind of guesses, so that this kind is used again
+    /// from time to time.
     #[inline]
     pub(crate) fn cost(&mut self, guesses: &Guesses, again: usize) -> usize {
         let cost = AGAIN * again + EXAMINE * guesses.looked;
@@ -141,17 +151,18 @@ impl Guesser {
     }
 }
 
-/// Returns the index of the counter for two candidates, which may be in either order.
+/// Returns the index of the counter for a pair of candidates. The order of the candidates does not
+/// matter.
 fn hash(first: u32, second: u32) -> usize {
     let (low, high) = (first.min(second), first.max(second));
     ((low.wrapping_mul(0x9E37_79B1) ^ high.wrapping_mul(0x85EB_CA77)) >> 26) as usize
 }
 
-/// The guesses that are rare, and therefore made out of line.
+/// The functions for rare guesses, which are called out of line.
 trait Far<'source>: Tables<'source> {
-    /// Guesses the row offsets of all blocks but the first by more bytes: from the last line end
-    /// before each block, after which the row offset is `start`. Returns also the number of bytes
-    /// that were examined.
+    /// Guesses the row offsets of all blocks but the first from the bytes after the last line end
+    /// before each block. Assumes that the row offset after a line end is `start`. Returns the
+    /// guesses, and the number of bytes that were examined.
     #[cold]
     #[inline(never)]
     fn guess_by_lines(input: &[u8; CHUNK], start: u32) -> ([u32; BLOCKS], usize) {
@@ -164,8 +175,8 @@ trait Far<'source>: Tables<'source> {
         (guess_row_offsets::<Self>(input, from, start), looked)
     }
 
-    /// Guesses the row offsets of all blocks but the first: those after the last bytes of the block
-    /// before, if `start` is the row offset before these bytes.
+    /// Guesses the row offsets of all blocks but the first from the last bytes of the preceding
+    /// blocks. Assumes that the row offset before these bytes is `start`.
     #[cold]
     #[inline(never)]
     fn guess_others(input: &[u8; CHUNK], start: u32) -> [u32; BLOCKS] {
@@ -181,8 +192,8 @@ trait Far<'source>: Tables<'source> {
 
 impl<'source, T: Tables<'source>> Far<'source> for T {}
 
-/// Guesses the row offsets of all parts of `size` bytes but the first, as [`guess_row_offsets`]
-/// does. That of the first part is `first`.
+/// Guesses the row offsets of parts of `size` bytes each, as [`guess_row_offsets`] does for blocks.
+/// The row offset of the first part is `first`.
 #[inline]
 pub(crate) fn guess_parts<'s, T: Tables<'s>>(
     rest: &[u8],
@@ -201,9 +212,9 @@ pub(crate) fn guess_parts<'s, T: Tables<'s>>(
     row_starts.map(|row_start| row_start & OFFSET_MASK)
 }
 
-/// Guesses the row offsets of all blocks but the first: those after the bytes that follow the last
-/// line end, from byte `from` of the previous block on, where `start` is the row offset after a
-/// line end. All guesses are made in parallel, as blocks are walked.
+/// Guesses the row offset of each block but the first from the bytes of the preceding block at and
+/// after the index `from`. Assumes that the row offset is `start` before these bytes and after each
+/// line end. The guesses are computed in parallel, as blocks are walked.
 #[inline(always)]
 fn guess_row_offsets<'s, T: Tables<'s>>(
     input: &[u8; CHUNK],
@@ -221,8 +232,8 @@ fn guess_row_offsets<'s, T: Tables<'s>>(
     row_starts.map(|row_start| row_start & OFFSET_MASK)
 }
 
-/// Returns the index of the last line end in a window, or that of the first of its last [`NEAR`]
-/// bytes if there is no line end.
+/// Returns the index of the last line end in `window`. If there is no line end, returns the index
+/// of the first of the last [`NEAR`] bytes.
 fn last_line_end(window: &[u8; FAR]) -> usize {
     for (n, eight) in window.chunks_exact(8).enumerate().rev() {
         let ends = line_ends(eight);
@@ -233,8 +244,8 @@ fn last_line_end(window: &[u8; FAR]) -> usize {
     FAR - NEAR
 }
 
-/// Returns eight bytes as a number in which the highest bit of each byte is set if it is a line
-/// end.
+/// Returns a number in which the highest bit of each byte is set if the corresponding byte of
+/// `eight` is a line end. All other bits are 0.
 fn line_ends(eight: &[u8]) -> u64 {
     const ONES: u64 = 0x7F7F_7F7F_7F7F_7F7F;
     let eight = u64::from_le_bytes([

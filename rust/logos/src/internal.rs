@@ -12,20 +12,20 @@ pub use Tables as _Tables;
 
 /// The methods of a lexer that generated code calls.
 pub trait LexerInternal<'source> {
-    /// Returns the chunk of the input at byte `offset`, or `None` if the input has too few bytes
-    /// there.
+    /// Returns the chunk that begins at the byte offset `offset`, or `None` if the chunk would
+    /// extend past the end of the input.
     fn read<C: Chunk<'source>>(&self, offset: usize) -> Option<C>;
 
     /// Returns the byte offset at which the token begins.
     fn offset(&self) -> usize;
 
-    /// Ends the token at byte `offset`.
+    /// Sets the end of the token to the byte offset `offset`.
     fn end(&mut self, offset: usize);
 
-    /// Ends the token at the first boundary at or after byte `offset`.
+    /// Sets the end of the token to the first boundary at or after the byte offset `offset`.
     fn end_to_boundary(&mut self, offset: usize);
 
-    /// Skips the token: the next one begins where it ends.
+    /// Skips the token. The next token begins at the end of the skipped token.
     fn trivia(&mut self);
 }
 
@@ -57,40 +57,42 @@ impl<'source, Token: Logos<'source>> LexerInternal<'source> for Lexer<'source, T
     }
 }
 
-/// An enum whose lexer is tables: these tables, and the functions for its leaves, in generated
-/// code.
+/// An enum with a table-driven lexer. The generated code implements this trait with the tables, and
+/// with functions for the leaves.
 pub trait Tables<'source>: Logos<'source> + Made<'source> {
-    /// The tables, packed.
+    /// The tables in packed form.
     const DATA: Data;
 
-    /// The type of the unpacked tables, and these tables, from which the constants that follow are
-    /// made.
+    /// The type of the unpacked tables.
     type Unpacked: 'static;
+    /// The unpacked tables. The constants that follow are computed from them.
     const UNPACKED: &'static Self::Unpacked;
 
-    /// The rows that `lex` reads if they have an entry for each byte: see [`_Unpacked::rows`].
+    /// The rows that `lex` reads if rows have an entry for each byte. See [`_Unpacked::rows`].
     const ROWS: &'static [u32];
 
-    /// The last match in each state: see [`_Unpacked::lasts`].
+    /// The last match in each state. See [`_Unpacked::lasts`].
     const LASTS: &'static [u32];
 
-    /// The masks of the loops over bytes that stay in a state, and the ranges of these bytes.
+    /// The masks of the fast loops.
     const MASKS: &'static [Mask];
+    /// The ranges of the bytes that each fast loop consumes.
     const RANGES: &'static [Ranges];
 
-    /// The tables that walks read if their rows have an entry for each byte: see
+    /// The folded tables that walks read if rows have an entry for each byte. See
     /// [`_Unpacked::folded`].
     const FOLDED: &'static [u32];
 
     /// Returns the bytes of an input.
     fn bytes(source: &'source Self::Source) -> &'source [u8];
 
-    /// Returns the token of `leaf`, or `None` if the outcome of its match is that of
-    /// [`Tables::act`].
+    /// Returns the token of the leaf with the number `leaf`, or `None` if [`Tables::act`]
+    /// determines the outcome of the leaf's matches.
     fn plain(leaf: usize) -> Option<Self>;
 
-    /// Returns the outcome of the lexer's match of `leaf`, for which [`Tables::plain`] returns
-    /// `None`. Calls the callback of the leaf, if it has one.
+    /// Returns the outcome of the lexer's current match, which is a match of the leaf with the
+    /// number `leaf`. Calls the callback of the leaf, if it has one. Called if [`Tables::plain`]
+    /// returns `None` for the leaf.
     fn act(lexer: &mut Lexer<'source, Self>, leaf: usize) -> CallbackResult<'source, Self>;
 
     /// Returns the error for unmatched input.
@@ -104,8 +106,8 @@ pub trait Tables<'source>: Logos<'source> + Made<'source> {
     }
 }
 
-/// Returns the lexer, which looks ahead everywhere if `everywhere`, and otherwise nowhere. Tests
-/// compare the two.
+/// Returns `lexer`, changed to look ahead everywhere if `everywhere` is `true`, and nowhere
+/// otherwise. Tests compare the items that the lexer finds with each setting.
 pub fn looking<'source, Token: Tables<'source>>(
     mut lexer: Lexer<'source, Token>,
     everywhere: bool,
@@ -139,10 +141,10 @@ impl<'source, Token: Logos<'source>> From<SkipResult<'source, Token>>
     }
 }
 
-/// A type that a callback may return if its token has a `Value`.
+/// A type that a callback can return if its token has a value of the type `Value`.
 pub trait CallbackRetVal<'source, Value, Token: Logos<'source>> {
-    /// Returns the outcome of the match. Where that is a token, `constructor` makes it from its
-    /// value.
+    /// Returns the outcome of the match. If the outcome is a token, `constructor` makes the token
+    /// from its value.
     fn construct<Constructor: FnOnce(Value) -> Token>(
         self,
         constructor: Constructor,
@@ -253,7 +255,7 @@ where
     }
 }
 
-/// A type that a callback of a skip may return.
+/// A type that the callback of a skip can return.
 pub trait SkipRetVal<'source, Token: Logos<'source>> {
     /// Returns the outcome of the match.
     fn construct(self) -> SkipResult<'source, Token>;

@@ -1,11 +1,13 @@
 //! The layout of tables: which states have a row, and the columns of rows. Used by `run`, `rows`,
 //! `folded` and `characters`.
 //!
-//! If a lexer has many states, most of them are between the bytes of a character: only bytes from
-//! 0x80 to 0xBF lead on from there, and mostly to one or two states. Such a state has no row, but a
-//! set of these bytes with two entries among the rows, or an entry for each of them: see
-//! [`Inside`]. The columns of rows are then the classes of the symbols in the states that have
-//! rows. Otherwise each state has a row, with an entry for each byte.
+//! If a lexer has many states, most of them are inside characters. In such a state only bytes from
+//! 0x80 to 0xBF lead to a state, and most of these bytes lead to one or two states. Such a state
+//! has no row. Instead it has either two entries, and the set of the bytes that have the second
+//! entry, or an entry for each byte from 0x80 to 0xBF: see [`Inside`]. The columns of rows are then
+//! the classes of the symbols in the states that have rows.
+//!
+//! If a lexer has few states, each state has a row, and each row has an entry for each byte.
 
 use crate::data::{Row, Unpacked, BYTES, END, SYMBOLS};
 use crate::internal::Tables;
@@ -15,34 +17,39 @@ use core::marker::PhantomData;
 /// The layout of the rows of a lexer.
 #[derive(Clone, Copy)]
 pub struct Layout {
-    /// The number of states that have a row, and the number of those that have none.
+    /// The number of states that have a row.
     pub(crate) rows: usize,
+    /// The number of states that have no row.
     pub(crate) insides: usize,
     /// The number of the state in which each match attempt begins.
     pub(crate) root: usize,
-    /// The number of columns of a row, and the column of each symbol.
+    /// The number of columns of a row.
     pub(crate) columns: usize,
+    /// The column of each symbol.
     pub(crate) column: [u16; SYMBOLS],
-    /// Whether all inputs are UTF-8, and whether characters of more than one byte stay in a state.
+    /// Whether all inputs are UTF-8.
     pub(crate) is_text: bool,
+    /// Whether any fast loop consumes characters of more than one byte.
     pub(crate) passes: bool,
 }
 
-/// The steps of a state that has no row, of bytes from 0x80 to 0xBF: the index of the first entry,
-/// to which the bits of `mask` in the byte and the byte's bit in `bits` are added. A state with at
-/// most two distinct entries has the mask 0, and the bytes of its second entry in `bits`. Another
-/// one has the entry of each byte, and no bits.
+/// The steps of a state without a row, for the bytes from 0x80 to 0xBF. The index of a byte's entry
+/// is the sum of `first`, the bits of `mask` in the byte, and the byte's bit in `bits`.
+///
+/// A state with at most two distinct entries has the mask 0, and `bits` contains the bytes that
+/// have the second entry. Any other state has an entry for each byte, and no bits.
 #[derive(Clone, Copy)]
 pub struct Inside {
     pub(crate) bits: u64,
     pub(crate) first: u32,
     pub(crate) mask: u8,
-    /// The mask for the index of an entry in a row: 0, or in [`NO_INSIDE`] all bits.
+    /// The mask for the index of an entry in a row: all bits in [`NO_INSIDE`], and 0 otherwise.
     pub(crate) row_mask: i8,
 }
 
-/// The number of bytes from 0x80 to 0xBF.
+/// The number of bytes from 0x80 to 0xBF, which continue a character.
 pub(crate) const CONTINUATIONS: usize = 64;
+/// The lowest byte that continues a character.
 pub(crate) const FIRST_CONTINUATION: usize = 0x80;
 /// The value for states with a row.
 pub(crate) const NO_INSIDE: Inside = Inside {
@@ -51,7 +58,7 @@ pub(crate) const NO_INSIDE: Inside = Inside {
     mask: 0,
     row_mask: -1,
 };
-/// The value for states without a row, before their steps are known.
+/// The value for states without a row before their steps are known.
 const NO_STEPS: Inside = Inside {
     row_mask: 0,
     ..NO_INSIDE
@@ -64,8 +71,8 @@ pub(crate) const fn continues(byte: u8) -> bool {
 }
 
 impl Inside {
-    /// Returns the index among the rows of the entry of `byte`, from 0x80 to 0xBF. There is no
-    /// branch, since none can be predicted in text of other scripts.
+    /// Returns the index in the rows of the entry for `byte`, a byte from 0x80 to 0xBF. The
+    /// function has no branch, since a branch could not be predicted in text that is not ASCII.
     #[inline(always)]
     pub(crate) const fn index(&self, byte: u8) -> usize {
         let bit = (self.bits >> (byte % CONTINUATIONS as u8)) as u32 & 1;
@@ -73,25 +80,29 @@ impl Inside {
     }
 }
 
-/// An enum whose lexer is tables, with these in the layout that the loops read. They are made from
-/// the tables that the lexer has in generated code.
+/// An enum with a table-driven lexer, and its tables in the layout that the loops read. The tables
+/// are computed from the tables in generated code.
 pub trait Made<'source> {
+    /// The layout of the rows.
     const LAYOUT: Layout;
     /// Whether there are states without a row.
     const HAS_INSIDES: bool;
-    /// The rows of the loop over match attempts: see [`crate::rows`].
+    /// The rows that the loop over match attempts reads. See [`crate::rows`].
     const ENTRIES: &'static [u32];
+    /// The steps of the states without a row, for match attempts.
     const INSIDES: &'static [Inside];
-    /// The last match in each state, and each state's index in the tables of generated code, both
-    /// in the order of the states' numbers.
+    /// The last match in each state, in the order of the states' numbers.
     const LAST_MATCHES: &'static [u32];
+    /// The index of each state in the tables of generated code, in the order of the states'
+    /// numbers.
     const NUMBERED: &'static [u32];
-    /// The rows of walks: see [`crate::folded`].
+    /// The folded tables, which walks read. See [`crate::folded`].
     const WALKED: &'static [u32];
+    /// The steps of the states without a row, for walks.
     const WALKED_INSIDES: &'static [Inside];
 }
 
-/// The steps of the states without a row, and the number of their entries among the rows.
+/// The steps of the states without a row, and the number of their entries in the rows.
 pub(crate) struct Sets<const STATES: usize> {
     pub(crate) insides: [Inside; STATES],
     pub(crate) entries: usize,
@@ -142,8 +153,8 @@ const fn printed_folded<'s, T: Tables<'s>>() -> &'static [u32] {
     T::FOLDED
 }
 
-/// The steps of the states without a row of a lexer, as constants: among the rows of match
-/// attempts, and among those of walks.
+/// The steps of the states that have no row, as constants: the steps for match attempts, and the
+/// steps for walks.
 struct Parts<'s, T>(PhantomData<(&'s (), T)>);
 
 impl<'s, T, const STATES: usize, const RUNS: usize> Parts<'s, T>
@@ -154,7 +165,7 @@ where
     const FOLDED: Sets<STATES> = T::UNPACKED.folded_sets(T::LASTS);
 }
 
-/// The tables of a lexer with `N` entries, as constants.
+/// The tables of a lexer as constants, with `N` entries.
 struct Sized<'s, T, const N: usize>(PhantomData<(&'s (), T)>);
 
 impl<'s, T, const STATES: usize, const RUNS: usize, const N: usize> Sized<'s, T, N>
@@ -174,7 +185,8 @@ where
     }
 }
 
-/// Calls the function `$made` of `Sized` for the least of the lengths `$n` that is at least `$len`.
+/// Calls the function `$made` of `Sized` with the least of the lengths `$n` that is at least
+/// `$len`.
 macro_rules! of_size {
     ($len:expr, $made:ident, $T:ident: $($n:literal)*) => {
         match $len {
@@ -205,8 +217,9 @@ where
 }
 
 impl<const STATES: usize, const RUNS: usize> Unpacked<STATES, RUNS> {
-    /// Returns the number of each state, where the states that have a row come first. Returns also
-    /// the layout, and the column of each class, followed by the number of columns.
+    /// Returns the number of each state, the layout, and the column of each class, followed by the
+    /// number of columns. The states that have a row have lower numbers than the states that have
+    /// none.
     pub(crate) const fn laid_out(&self) -> ([u32; STATES], Layout, [u16; SYMBOLS + 1]) {
         let (mut column, mut symbol) = ([0; SYMBOLS], 0);
         let (mut number, mut state, mut rows) = ([u32::MAX; STATES], 0, 0);
@@ -267,8 +280,8 @@ impl<const STATES: usize, const RUNS: usize> Unpacked<STATES, RUNS> {
         is_inside && state != self.data.root && !self.data.by_bytes()
     }
 
-    /// Returns the column of each class, followed by the number of columns, where the states whose
-    /// number is below `rows` have a row.
+    /// Returns the column of each class, followed by the number of columns. `number` contains the
+    /// number of each state. The states with numbers below `rows` have a row.
     const fn columns_of_classes(&self, number: &[u32; STATES], rows: u32) -> [u16; SYMBOLS + 1] {
         let (mut columns, mut is_first, mut state) = ([0; SYMBOLS + 1], [false; SYMBOLS + 1], 0);
         let (width, runs) = (self.data.width, &self.runs);
@@ -303,7 +316,8 @@ impl<const STATES: usize, const RUNS: usize> Unpacked<STATES, RUNS> {
         states
     }
 
-    /// Returns `values`, one for each state, in the order of the states' numbers.
+    /// Returns the elements of `values`, which has one element for each state, in the order of the
+    /// states' numbers.
     const fn by_numbers(&self, values: &[u32]) -> [u32; STATES] {
         let (mut by_numbers, mut state) = ([0; STATES], 0);
         while state < STATES {
@@ -313,8 +327,9 @@ impl<const STATES: usize, const RUNS: usize> Unpacked<STATES, RUNS> {
         by_numbers
     }
 
-    /// Returns the steps of the states without a row, whose entries begin at the index `first`,
-    /// given the last match in each state. States share the two entries of one step and of no step.
+    /// Returns the steps of the states without a row. Their entries begin at the index `first` of
+    /// the rows. `lasts` contains the last match in each state. States that lead only to the same
+    /// state can share their two entries.
     pub(crate) const fn sets(&self, first: usize, lasts: &[u32]) -> Sets<STATES> {
         let (mut sets, mut state, rows) = (Sets::NONE, 0, self.layout.rows);
         let mut shared = [[0; 2]; STATES];
@@ -368,7 +383,7 @@ impl<const STATES: usize, const RUNS: usize> Unpacked<STATES, RUNS> {
 }
 
 impl<const STATES: usize> Sets<STATES> {
-    /// The value before the steps of any state are made.
+    /// The value before the steps of any state are computed.
     pub(crate) const NONE: Sets<STATES> = Sets {
         insides: [NO_INSIDE; STATES],
         entries: 0,
@@ -376,8 +391,8 @@ impl<const STATES: usize> Sets<STATES> {
 }
 
 impl Row {
-    /// Returns the steps of a state without a row that has this row in generated code, with entries
-    /// from the index `first` on.
+    /// Returns the steps of a state without a row. The state has the row `self` in generated code,
+    /// and its entries begin at the index `first`.
     const fn inside(&self, first: u32) -> Inside {
         if self.kinds < 3 {
             let bits = self.bits;
@@ -395,8 +410,8 @@ impl Row {
         }
     }
 
-    /// Returns the step of the bytes that continue a character, if all that lead to a state have
-    /// the same one, and the bits of these bytes. Otherwise returns 0.
+    /// Returns the step of the bytes that continue a character and lead to a state, and the set of
+    /// these bytes. Returns zeros if these bytes have more than one step.
     pub(crate) const fn only_step(&self) -> (usize, u64) {
         match (self.kinds, self.steps) {
             (1, [next, _]) => (next, !0),
@@ -407,7 +422,8 @@ impl Row {
     }
 }
 
-/// Returns for each class the number of symbols in lower classes that cannot continue a character.
+/// Returns, for each class, the number of symbols in lower classes that cannot continue a
+/// character.
 pub(crate) const fn others_before(classes: &[u16; SYMBOLS]) -> [u16; SYMBOLS + 1] {
     let (mut before, mut symbol, mut class) = ([0; SYMBOLS + 1], 0, 0);
     while symbol < SYMBOLS {
@@ -422,7 +438,7 @@ pub(crate) const fn others_before(classes: &[u16; SYMBOLS]) -> [u16; SYMBOLS + 1
     before
 }
 
-/// Returns for each class the bits of the bytes from 0x80 to 0xBF in lower classes.
+/// Returns, for each class, the set of the bytes from 0x80 to 0xBF in lower classes.
 pub(crate) const fn continuing(classes: &[u16; SYMBOLS]) -> [u64; SYMBOLS + 1] {
     let (mut bits, mut byte, mut class) = ([0; SYMBOLS + 1], FIRST_CONTINUATION, 0);
     while byte < FIRST_CONTINUATION + CONTINUATIONS {

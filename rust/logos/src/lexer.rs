@@ -9,7 +9,7 @@ use crate::{Logos, Source};
 use core::fmt;
 use core::ops::{Deref, DerefMut, Range};
 
-/// A range of byte offsets in an input, without the offset at its end.
+/// A range of byte offsets in an input. It excludes the offset at its end.
 pub type Span = Range<usize>;
 
 /// The setting that determines where a lexer looks ahead.
@@ -26,8 +26,8 @@ pub enum Way {
     Part,
 }
 
-/// The value of `start` for a token that was found ahead, whose start is looked up only when it is
-/// read.
+/// The value of `start` for a token that was found ahead. The start of such a token is computed
+/// only when it is read.
 #[cfg(feature = "std")]
 const AHEAD: usize = usize::MAX;
 
@@ -88,7 +88,7 @@ impl<'source, Token: Logos<'source>> Lexer<'source, Token> {
     /// # Panics
     ///
     /// Panics if the token would end after the end of the input, or inside a character. The lexer
-    /// is unchanged then.
+    /// then remains unchanged.
     pub fn bump(&mut self, n: usize) {
         let end = self.end.checked_add(n);
         let is_end = |end: &usize| *end <= self.source.len() && self.source.is_boundary(*end);
@@ -97,8 +97,8 @@ impl<'source, Token: Logos<'source>> Lexer<'source, Token> {
         self.ahead.forget();
     }
 
-    /// Returns a lexer for another enum at the same offset of the same input. Its extras are made
-    /// from those of this lexer.
+    /// Returns a lexer for another enum at the same offset of the same input. Converts the extras
+    /// of this lexer.
     pub fn morph<Other>(self) -> Lexer<'source, Other>
     where
         Other: Logos<'source, Source = Token::Source>,
@@ -118,8 +118,8 @@ impl<'source, Token: Logos<'source>> Lexer<'source, Token> {
         SpannedIter { lexer: self }
     }
 
-    /// Returns an iterator over the tokens and errors that follow, with their spans: the items of
-    /// [`Lexer::spanned`].
+    /// Returns an iterator over the tokens and errors that follow, with their spans. It yields the
+    /// same items as [`Lexer::spanned`].
     pub fn scan(self) -> Scanner<'source, Token>
     where
         Token: Scan<'source>,
@@ -128,11 +128,11 @@ impl<'source, Token: Logos<'source>> Lexer<'source, Token> {
     }
 
     /// Returns an iterator over the tokens and errors that follow and do not depend on the bytes
-    /// after this input, which is a part of a longer one. At the iterator's end,
-    /// [`Lexer::remainder`] is the text with which the next part has to begin.
+    /// after this input, which is a part of a longer input. After the last item,
+    /// [`Lexer::remainder`] returns the text with which the next part must begin.
     ///
-    /// Callbacks must read only their match: other text that they read is that of this part, not of
-    /// the longer input.
+    /// Callbacks must read only their match. Any other text that they read belongs to this part,
+    /// and not to the longer input.
     pub fn scan_part(mut self) -> Scanner<'source, Token>
     where
         Token: Scan<'source>,
@@ -141,7 +141,7 @@ impl<'source, Token: Logos<'source>> Lexer<'source, Token> {
         Scanner::new(self)
     }
 
-    /// Sets where the lexer looks ahead, and forgets the items that it has found ahead.
+    /// Sets where the lexer looks ahead. Forgets the items that the lexer has found ahead.
     pub(crate) fn set_way(&mut self, way: Way) {
         self.start = self.start();
         self.ahead = match way {
@@ -166,7 +166,8 @@ impl<'source, Token: Logos<'source>> Lexer<'source, Token> {
         self.start
     }
 
-    /// Returns the byte offset at which the token begins, which must not have been found ahead.
+    /// Returns the byte offset at which the last token begins. The token must not have been found
+    /// ahead.
     #[inline(always)]
     pub(crate) fn begun(&self) -> usize {
         self.start
@@ -181,7 +182,8 @@ impl<'source, Token: Logos<'source>> Lexer<'source, Token> {
         (self.start, self.end) = (span.start, span.end);
     }
 
-    /// Sets the span to that of the token that was found ahead and ends at byte offset `end`.
+    /// Sets the span to the span of a token that was found ahead. The token ends at the byte offset
+    /// `end`.
     #[cfg(feature = "std")]
     #[inline(always)]
     pub(crate) fn set_end_ahead(&mut self, end: usize) {

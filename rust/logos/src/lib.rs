@@ -1,11 +1,12 @@
 //! Lexers from enums: `#[derive(Logos)]`, and the runtime of the generated lexers.
 //!
-//! An enum implements [`Logos`] by the derive macro, or by generated code that the program
+//! The trait [`Logos`] is implemented by the derive macro, or by generated code that the program
 //! `logos_cli` prints. [`Logos::lexer`] returns a lexer on an input, which is an iterator over
-//! tokens. Where the lexer is tables, it looks ahead by chunks of the input where that saves time.
-//! A `for` loop is as fast as `for_each` if the lexer stays in registers: if there is one call of
-//! `next`, and each function that takes the lexer is inlined. With several calls of `next` the
-//! lexer is in memory, and each token costs a few more loads and stores.
+//! tokens. A table-driven lexer looks ahead by chunks of the input where this saves time.
+//!
+//! A `for` loop is as fast as `for_each` if the compiler keeps the lexer in registers. It can do so
+//! if there is one call of `next`, and each function that takes the lexer is inlined. With several
+//! calls of `next`, the lexer is in memory, and each token costs a few more loads and stores.
 //!
 //! # Features
 //!
@@ -68,7 +69,7 @@ pub trait Logos<'source>: Sized {
     /// The type of the error for unmatched input.
     type Error: Default + Clone + PartialEq + core::fmt::Debug + 'source;
 
-    /// Returns the next token, or the error for unmatched input; or `None` at the end of the input.
+    /// Returns the next token, the error for unmatched input, or `None` at the end of the input.
     ///
     /// Generated code implements this function. Programs iterate over a [`Lexer`] instead.
     fn lex(lexer: &mut Lexer<'source, Self>) -> Option<Result<Self, Self::Error>>;
@@ -90,17 +91,17 @@ pub trait Logos<'source>: Sized {
     }
 }
 
-/// Returns [`Skip`]: a callback that skips the match, such as in `#[regex(" +", logos::skip)]`.
+/// Returns [`Skip`]. Used as a callback that skips the match, as in `#[regex(" +", logos::skip)]`.
 #[inline]
 pub fn skip<'source, Token: Logos<'source>>(_lexer: &mut Lexer<'source, Token>) -> Skip {
     Skip
 }
 
-/// The result of a callback: the match is skipped.
+/// The result of a callback that skips the match.
 #[derive(Clone, Copy, Debug, PartialEq, Eq)]
 pub struct Skip;
 
-/// The result of a callback: the match is a token with a value, or is skipped.
+/// The result of a callback: a token with a value, or no token.
 #[derive(Clone, Copy, Debug, PartialEq, Eq)]
 pub enum Filter<Value> {
     /// A token with this value.
@@ -109,7 +110,7 @@ pub enum Filter<Value> {
     Skip,
 }
 
-/// The result of a callback: the match is a token with a value, is skipped, or is an error.
+/// The result of a callback: a token with a value, no token, or an error.
 #[derive(Clone, Copy, Debug, PartialEq, Eq)]
 pub enum FilterResult<Value, Error> {
     /// A token with this value.

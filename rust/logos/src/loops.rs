@@ -1,39 +1,45 @@
-//! The loops over bytes that stay in a state: their tables, and the search for the end of these
-//! bytes. Used by `run`.
+//! The fast loops of a lexer: their tables, and the search for the first byte that a fast loop does
+//! not consume. Used by `run`.
 
 use crate::characters;
 use crate::data::{Row, Unpacked, END, SYMBOLS};
 use crate::internal::Tables;
 
-/// The mask of a loop: for each byte eight zeros if it stays in the state, otherwise eight numbers
-/// of which number `k` has only bit `k`. The sum of number `k` of the `k`-th of eight bytes, over
-/// all `k`, is the set of the bytes that do not stay.
+/// The mask of a fast loop, with eight numbers for each byte. The numbers are 0 if the fast loop
+/// consumes the byte. Otherwise only bit `k` of the number at the index `k` is set.
+///
+/// For a block of eight bytes, take the number at the index `k` of the `k`-th byte. The sum of
+/// these numbers over all `k` is the set of the bytes of the block that the fast loop does not
+/// consume.
 pub type Mask = [[u8; 8]; 256];
 
 #[derive(Clone, Copy)]
 #[repr(align(16))]
 struct Bytes([u8; 16]);
 
-/// A range of bytes that stay: its lowest byte, and the distance of its highest byte from that,
-/// each sixteen times.
+/// A range of bytes that a fast loop consumes.
 #[derive(Clone, Copy)]
 struct Range {
+    /// The lowest byte of the range, sixteen times.
     lowest: Bytes,
+    /// The distance from the lowest byte to the highest byte of the range, sixteen times.
     length: Bytes,
 }
-/// The maximum number of ranges that a search by ranges compares with.
+/// The maximum number of ranges with which a search compares each byte.
 const MOST_RANGES: usize = 4;
 
-/// The ranges of the bytes that stay, and their number. If there are fewer than `MOST_RANGES`, the
-/// first range is repeated; if there are more, the others are left out.
+/// The ranges of the bytes that a fast loop consumes, and the number of these ranges. If there are
+/// fewer than `MOST_RANGES`, the first range is repeated. If there are more, only the first ranges
+/// are stored.
 pub struct Ranges([Range; MOST_RANGES], usize);
 
 impl<const STATES: usize, const RUNS: usize> Unpacked<STATES, RUNS> {
-    /// Returns the masks of all loops. Their number is a power of two, and there is at least one.
+    /// Returns the masks of all fast loops. The number of masks is a power of two, and there is at
+    /// least one mask.
     ///
     /// # Panics
     ///
-    /// Panics if `LOOPS` is less than the number of loops, or is no power of two.
+    /// Panics if `LOOPS` is less than the number of fast loops, or is not a power of two.
     pub(crate) const fn all_masks<const LOOPS: usize>(&self) -> [Mask; LOOPS] {
         assert!(LOOPS >= self.loops && LOOPS.is_power_of_two());
         let (mut masks, mut done, mut state) = ([[EACH; 256]; LOOPS], 0, 0);
@@ -49,7 +55,7 @@ impl<const STATES: usize, const RUNS: usize> Unpacked<STATES, RUNS> {
         masks
     }
 
-    /// Returns the mask of the loop of a state.
+    /// Returns the mask of the fast loop of a state.
     const fn mask(&self, state: usize) -> Mask {
         let Row { run, passed, .. } = self.rows[state];
         let (mut stays, mut class, mut run, mut passed) = ([false; SYMBOLS], 0, run, passed);
@@ -72,7 +78,7 @@ impl<const STATES: usize, const RUNS: usize> Unpacked<STATES, RUNS> {
     }
 }
 
-/// The numbers in a mask for a byte that does not stay.
+/// The numbers in a mask for a byte that the fast loop does not consume.
 const EACH: [u8; 8] = [1, 2, 4, 8, 16, 32, 64, 128];
 
 impl Ranges {
@@ -80,7 +86,7 @@ impl Ranges {
     ///
     /// # Panics
     ///
-    /// Panics if `LOOPS` is not the number of the masks.
+    /// Panics if `LOOPS` is not the number of masks.
     pub const fn of<'source, T: Tables<'source>, const LOOPS: usize>() -> [Ranges; LOOPS] {
         let masks = T::MASKS;
         assert!(LOOPS == masks.len());
@@ -117,8 +123,8 @@ impl Ranges {
         ranges
     }
 
-    /// Returns the greatest number of ranges of any loop that is at most [`MOST_RANGES`], or 1 if
-    /// there is none.
+    /// Returns the greatest number of ranges of a fast loop, among the fast loops with at most
+    /// [`MOST_RANGES`] ranges. Returns 1 if there is no such fast loop.
     pub(crate) const fn most(all: &[Ranges]) -> usize {
         let (mut most, mut n) = (1, 0);
         while n < all.len() {
@@ -140,8 +146,9 @@ const NONE: Ranges = {
     Ranges([range; MOST_RANGES], 0)
 };
 
-/// Returns a bit for each byte of a block, which is set if the byte does not stay. The sum of
-/// distinct bits is their union, and keeps the compiler from making one long chain of all eight.
+/// Returns a bit for each byte of a block. The bit is set if the fast loop does not consume the
+/// byte. Sums of distinct bits are equal to unions, and keep the compiler from joining all eight
+/// operations in one long chain.
 #[inline(always)]
 fn bits(mask: &Mask, block: &[u8; 8]) -> u8 {
     let low = mask[block[0] as usize][0] | mask[block[1] as usize][1];
@@ -151,8 +158,9 @@ fn bits(mask: &Mask, block: &[u8; 8]) -> u8 {
     low | high
 }
 
-/// Returns for each byte of a block, the first one lowest, its distance from the end of the nearest
-/// of the first `most` ranges before it, and 0 if the byte stays. Compilers vectorize the loops of
+/// Returns a number for each byte of a block, the number of the first byte in the lowest eight
+/// bits. The number is 0 if the byte is in one of the first `most` ranges, and otherwise the least
+/// distance from the end of one of these ranges up to the byte. Compilers vectorize the loops of
 /// this function.
 #[inline(always)]
 fn past(ranges: &Ranges, most: usize, block: &[u8; 16]) -> u128 {
@@ -173,26 +181,27 @@ fn past(ranges: &Ranges, most: usize, block: &[u8; 16]) -> u128 {
     u128::from_le_bytes(past)
 }
 
-/// The searches for the end of the bytes that stay in a state. These are functions of the enum, so
-/// that the compiler puts them beside its loop.
+/// The searches for the first byte that a fast loop does not consume. They are associated functions
+/// of the enum, so that the compiler puts them next to the enum's loop over match attempts.
 pub(crate) trait Loops<'source>: Tables<'source> {
-    /// The maximum number of ranges that a search by ranges compares with.
+    /// The maximum number of ranges with which a search in this lexer compares each byte.
     const MOST: usize = Ranges::most(Self::RANGES);
-    /// The bit mask for the number of a loop.
+    /// The bit mask for the number of a fast loop.
     const LOOP: usize = Self::MASKS.len() - 1;
     /// Whether the compiler vectorizes loops over 16 bytes.
     const VECTORS: bool = option_env!("LOGOS_VECTORS").is_some()
         && cfg!(any(target_feature = "sse2", target_feature = "neon"));
 
-    /// Returns whether a byte stays in the state, according to the loop with the number `number`.
+    /// Returns whether the fast loop with the number `number` consumes `byte`.
     #[inline(always)]
     fn stays(number: usize, byte: u8) -> bool {
         Self::MASKS[number & Self::LOOP][byte as usize][0] == 0
     }
 
-    /// Returns the byte offset, from `from` on, of the first byte that does not stay, according to
-    /// the loop with the number `number`, or the end of the input. The part after the first bytes
-    /// is out of line, so that the loop over match attempts has all registers.
+    /// Returns the byte offset of the first byte at or after `from` that the fast loop with the
+    /// number `number` does not consume, or the end of the input if there is no such byte. The
+    /// search after the first bytes is called out of line, so that all registers are available to
+    /// the loop over match attempts.
     #[inline(always)]
     fn stop(number: usize, bytes: &[u8], from: usize) -> usize {
         let Some(rest) = bytes.get(from..) else {
@@ -209,10 +218,10 @@ pub(crate) trait Loops<'source>: Tables<'source> {
         from + bits.trailing_zeros() as usize
     }
 
-    /// Like [`Loops::stop`], for bytes after the first ones. Each of the first four loops has its
-    /// own function, chosen by a branch, so that the search does not wait for a table load. The
-    /// masks are those of the caller, which may be in another part of the program, so that this
-    /// part needs no copy.
+    /// Like [`Loops::stop`], for the bytes after the first ones. Each of the first four fast loops
+    /// has its own function, which a branch selects, so that the search does not wait for a load
+    /// from a table. The caller passes its masks, so that the part of the program with this
+    /// function needs no copy of them.
     #[inline(never)]
     fn stop_far(masks: &'static [Mask], number: usize, bytes: &[u8], from: usize) -> usize {
         match number {
@@ -279,7 +288,7 @@ pub(crate) trait Loops<'source>: Tables<'source> {
         Self::stop_late(masks, number, bytes, bytes.len() - rest.len())
     }
 
-    /// Like [`Loops::stop`], byte by byte.
+    /// Like [`Loops::stop`], one byte at a time.
     #[cold]
     #[inline(never)]
     fn stop_late(masks: &'static [Mask], number: usize, bytes: &[u8], from: usize) -> usize {

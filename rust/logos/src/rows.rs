@@ -1,47 +1,49 @@
 //! The rows that the loop over match attempts reads. Used by `layout` and `run`.
 //!
 //! A row has an entry for each byte and for the end of the input, or for each class. An entry below
-//! [`STAYS`] leads to a state: it is the row offset of that state. Otherwise its upper bits are its
-//! kind, and its lower bits are the number of a leaf or of a loop.
+//! [`STAYS`] leads to a state, and is the row offset of this state. In any other entry, the upper
+//! bits are the kind of the entry, and the lower bits are the number of a leaf or of a fast loop.
 
 use crate::data::{Unpacked, SYMBOLS};
 use crate::layout::{Inside, Layout, Sets, CONTINUATIONS, FIRST_CONTINUATION, NO_INSIDE};
 
 const KIND_BIT: u32 = 29;
 const ONE_KIND: u32 = 1 << KIND_BIT;
-/// The bits of an entry with the number of a leaf or of a loop.
+/// The bits of an entry that contain the number of a leaf or of a fast loop.
 pub(crate) const NUMBERS: u32 = ONE_KIND - 1;
-/// The kind of an entry whose byte stays in the state, in the loop with the entry's number.
-/// [`SINGLY`] is added if each of the next bytes has its own branch.
+/// The kind of an entry whose byte is consumed by the fast loop with the entry's number.
 pub(crate) const STAYS: u32 = ONE_KIND;
+/// The bit that is added to [`STAYS`] if each of the next bytes has its own branch.
 pub(crate) const SINGLY: u32 = ONE_KIND / 2;
-/// The kind of an entry before whose byte a match of the leaf ends. In the next kind the leaf is
-/// skipped without a callback.
+/// The kind of an entry before whose byte a match of the leaf ends. The next higher kind is used
+/// for leaves whose matches are skipped without a callback.
 pub(crate) const ENDS: u32 = 2 * ONE_KIND;
-/// The kind of an entry after whose byte a match of the leaf ends, which no byte continues. In the
-/// next kind the leaf is skipped without a callback.
+/// The kind of an entry after whose byte a match of the leaf ends. No byte continues this match.
+/// The next higher kind is used for leaves whose matches are skipped without a callback.
 pub(crate) const CLOSES: u32 = 4 * ONE_KIND;
 /// The entry of a byte that leads to no state, and before which no match ends.
 pub(crate) const NOWHERE: u32 = 6 * ONE_KIND;
-/// The entry of the end of the input where it leads to a state: another attempt finds the last
-/// match.
+/// The entry of the end of the input if the end of the input leads to a state. Another attempt then
+/// finds the last match.
 pub(crate) const AGAIN: u32 = 7 * ONE_KIND;
 
-/// The values for a state in which there is no last match, and for one in which it depends on the
-/// bytes.
+/// The value for a state without a last match.
 pub(crate) const NEVER: u32 = 1;
+/// The value for a state in which the last match depends on the bytes.
 pub(crate) const VARIES: u32 = 2;
 /// The bit of a last match whose distance is counted from the start of the attempt.
 pub(crate) const FORTH: u32 = 128;
+/// The maximum distance of a last match that is recorded, in bytes.
 const FARTHEST: u32 = 30;
 
 impl<const STATES: usize, const RUNS: usize> Unpacked<STATES, RUNS> {
-    /// Returns the number of entries of the rows, where the states without a row have `entries`.
+    /// Returns the total number of entries of the rows. `entries` is the number of entries of the
+    /// states without a row.
     pub(crate) const fn rows_len(&self, entries: usize) -> usize {
         self.insides_start() + entries
     }
 
-    /// Returns the index in the rows at which the entries of states without a row begin.
+    /// Returns the index in the rows at which the entries of the states without a row begin.
     const fn insides_start(&self) -> usize {
         let Layout {
             insides, is_text, ..
@@ -54,14 +56,14 @@ impl<const STATES: usize, const RUNS: usize> Unpacked<STATES, RUNS> {
         self.layout.rows * self.layout.columns
     }
 
-    /// Returns the rows of all states, given the steps `insides` of those without a row. The offset
-    /// of each row plus a byte or a class is the index of an entry: after the last row there are
-    /// more entries.
+    /// Returns the rows of all states. `insides` contains the steps of the states without a row.
+    /// The last row is followed by additional entries, so that the offset of each state plus a byte
+    /// or a class is the index of an entry.
     ///
     /// # Panics
     ///
-    /// Panics if there are more entries than `N`, or more entries or leaves than an entry can
-    /// number.
+    /// Panics if there are more than `N` entries, or if the number of entries or leaves is too
+    /// large for an entry.
     pub(crate) const fn all_rows<const N: usize>(&self, insides: &[Inside]) -> [u32; N] {
         assert!(N >= self.insides_start(), "the number of the entries");
         assert!(self.insides_start() < STAYS as usize, "too many entries");
@@ -119,12 +121,12 @@ impl<const STATES: usize, const RUNS: usize> Unpacked<STATES, RUNS> {
         self.with_characters(rows, 0, false)
     }
 
-    /// Returns the steps of the states without a row.
+    /// Returns the steps of the states without a row, for match attempts.
     pub(crate) const fn row_sets(&self, lasts: &[u32]) -> Sets<STATES> {
         self.sets(self.insides_start(), lasts)
     }
 
-    /// Returns the entry of `step` in `state`.
+    /// Returns the entry of the step `step` in `state`.
     pub(crate) const fn entry(&self, state: usize, step: usize) -> u32 {
         match step {
             0 if self.marks[state] % 2 == 0 => self.ended(self.marks[state], ENDS),
@@ -146,7 +148,7 @@ impl<const STATES: usize, const RUNS: usize> Unpacked<STATES, RUNS> {
         }
     }
 
-    /// Returns the entry of the kind `kind` for a mark, or [`NOWHERE`] for mark 0.
+    /// Returns the entry of the kind `kind` for the mark `mark`, or [`NOWHERE`] for the mark 0.
     const fn ended(&self, mark: u32, kind: u32) -> u32 {
         if mark == 0 {
             return NOWHERE;
@@ -155,10 +157,13 @@ impl<const STATES: usize, const RUNS: usize> Unpacked<STATES, RUNS> {
         kind + self.data.skips(leaf as usize) as u32 * ONE_KIND + leaf
     }
 
-    /// Returns for each state the last match of an attempt that ends there with a byte that leads
-    /// to no state: [`NEVER`], [`VARIES`], or otherwise 256 times 1 plus the leaf, plus the
-    /// distance of its end: a number of bytes before, or [`FORTH`] plus a number of bytes after the
-    /// start.
+    /// Returns, for each state, the last match of an attempt that ends in the state with a byte
+    /// that leads to no state.
+    ///
+    /// The value is [`NEVER`], [`VARIES`], or the sum of a distance and 256 times one more than the
+    /// leaf. The distance is the number of bytes from the end of the match to the end of the
+    /// attempt, or [`FORTH`] plus the number of bytes from the start of the attempt to the end of
+    /// the match.
     pub(crate) const fn all_lasts(&self) -> [u32; STATES] {
         let (mut before, mut is_new) = ([[0; 3]; STATES], [false; STATES]);
         let (mut lasts, mut changed, runs) = ([0; STATES], true, &self.runs);
@@ -199,13 +204,15 @@ impl<const STATES: usize, const RUNS: usize> Unpacked<STATES, RUNS> {
     }
 }
 
-/// The last match before a state, without the match of the state itself: by its distance from the
-/// state, and by its distance from the start of the attempt; and [`FORTH`] plus the number of bytes
-/// since that start. All are 0 for a state to which no bytes are known to lead.
+/// The last match before a state, without the match of the state itself. The first number contains
+/// the distance of the match from the state, the second number contains its distance from the start
+/// of the attempt, and the third number is [`FORTH`] plus the number of bytes since the start of
+/// the attempt. All numbers are 0 for a state to which no bytes are known to lead.
 type Before = [u32; 3];
 
-/// Returns the last match in a state, and the last match before the states after it, given that
-/// before the state. `loops` is whether a byte stays in the state.
+/// Returns the last match in a state, and the last match before each state to which it leads.
+/// `mark` is the mark of the state, `loops` is `true` if the state has a fast loop, and `before` is
+/// the last match before the state.
 const fn last_in(mark: u32, loops: bool, before: Before) -> (u32, Before) {
     let (leaf, late) = ((mark / 2) << 8, mark % 2);
     let [mut back, mut forth, mut since] = before;
@@ -244,7 +251,8 @@ const fn last_in(mark: u32, loops: bool, before: Before) -> (u32, Before) {
     (last, [back, forth, since])
 }
 
-/// Returns the last match before a state to which bytes lead in two ways, given that of each way.
+/// Returns the last match before a state to which bytes lead in two ways. `before` is the last
+/// match of one way, and `after` is the last match of the other way.
 const fn met(before: Before, after: Before) -> Before {
     let [back, forth, since] = before;
     [

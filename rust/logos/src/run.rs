@@ -1,5 +1,4 @@
-//! The loop over match attempts, with the tables of a lexer. Called by `Logos::lex` of generated
-//! code.
+//! The loop over match attempts of a table-driven lexer. Called by `Logos::lex` of generated code.
 
 #[cfg(feature = "std")]
 use crate::ahead::{Looks, Next};
@@ -15,39 +14,44 @@ use crate::Way;
 use crate::{Lexer, Logos, Source};
 use core::ops::ControlFlow::{self, Break, Continue};
 
-/// A step of a lexer: `Break` with the next item, or with `None` at the end of the input; or
-/// `Continue` with the value by which the lexer continues.
+/// The result of a step of a lexer. `Break` contains the next item, or `None` at the end of the
+/// input. `Continue` contains the value with which the lexer continues.
 type Step<'source, Token, Next> =
     ControlFlow<Option<Result<Token, <Token as Logos<'source>>::Error>>, Next>;
 
-/// Hints to the compiler that match attempts should have the registers.
+/// Does nothing. A call hints to the compiler that its branch is rare, so that match attempts have
+/// the registers.
 #[cfg(feature = "std")]
 #[cold]
 fn away() {}
 
-/// The loop and its steps. These are functions of the enum, so that the compiler puts them next to
-/// its `lex` and can inline that into its caller.
+/// The loop over match attempts, and the steps of the loop. They are associated functions of the
+/// enum, so that the compiler puts them next to the enum's `lex`, and can inline `lex` into its
+/// caller.
 pub(crate) trait Run<'source>: Loops<'source> {
     /// Whether a row has an entry for each byte instead of for each class.
     const BY_BYTES: bool = Self::DATA.by_bytes();
-    /// The number of columns of a row, and the column of the end of the input.
+    /// The number of columns of a row.
     const COLUMNS: usize = Self::LAYOUT.columns;
+    /// The column of the end of the input.
     const END_COLUMN: usize = Self::LAYOUT.column[END] as usize;
-    /// The bound below which an entry leads to a state with a row, the bound below which it leads
-    /// to any state, and the entry that leads to the first state.
+    /// The bound below which an entry leads to a state with a row.
     const LEADS: u32 = (Self::LAYOUT.rows * Self::COLUMNS) as u32;
+    /// The bound below which an entry leads to a state.
     const ENTERS: u32 = Self::LEADS + Self::LAYOUT.insides as u32;
+    /// The entry that leads to the root.
     const START: u32 = (Self::LAYOUT.root * Self::COLUMNS) as u32;
     /// The number of leaves.
     const LEAVES: usize = Self::DATA.leaves();
     /// Whether all inputs are UTF-8.
     const IS_TEXT: bool = <Self::Source as Source>::IS_TEXT;
-    /// The column of each byte, and the entries of the first state, by bytes.
+    /// The column of each byte.
     const BYTE_COLUMNS: &'static [u8; 256] = &columns(&Self::LAYOUT.column);
+    /// The entry of each byte in the root.
     const FIRST: &'static [u32; 256] =
         &first(Self::ENTRIES, Self::START as usize, &Self::LAYOUT.column);
 
-    /// Returns the entry of `byte` in the first state of an attempt.
+    /// Returns the entry of `byte` in the root.
     #[inline(always)]
     fn first_step(byte: u8) -> u32 {
         if Self::BY_BYTES {
@@ -57,8 +61,9 @@ pub(crate) trait Run<'source>: Loops<'source> {
         }
     }
 
-    /// Returns the entry of `byte` in a state with a row. The column is added to the address of the
-    /// table first, because the state is known last, from the step before.
+    /// Returns the entry of `byte` in `state`, which must have a row. Adds the column to the
+    /// address of the table first, because the state comes from the preceding step and is known
+    /// last.
     #[inline(always)]
     fn step(state: u32, byte: u8) -> u32 {
         Self::ENTRIES[Self::column(byte)..][state as usize]
@@ -98,7 +103,7 @@ pub(crate) trait Run<'source>: Loops<'source> {
         rows[Self::INSIDES[(state - Self::LEADS) as usize].index(byte)]
     }
 
-    /// Returns the number of the state whose offset is `state`.
+    /// Returns the number of the state whose row offset is `state`.
     #[inline(always)]
     fn number(state: u32) -> usize {
         if Self::HAS_INSIDES && Self::is_inside(state) {
@@ -107,10 +112,11 @@ pub(crate) trait Run<'source>: Loops<'source> {
         state as usize / Self::COLUMNS
     }
 
-    /// Continues an attempt at byte offset `from`, in the state `first` without a row, to the end
-    /// of this character and of the characters that follow, up to one that is ASCII. Returns the
-    /// last entry, the offset after its byte, and the state before it. At the end of the input in a
-    /// character the entry is [`NOWHERE`], and the offset is one more.
+    /// Continues an attempt at the byte offset `from`, in the state `first`, which has no row.
+    /// Reads the rest of the character, and the characters after it that are not ASCII. Returns the
+    /// last entry, the offset after the entry's byte, and the state before this byte. If the input
+    /// ends inside a character, the entry is [`NOWHERE`], and the offset is 1 plus the length of
+    /// the input.
     #[inline(never)]
     fn walk_characters(
         rows: &'static [u32],
@@ -129,9 +135,10 @@ pub(crate) trait Run<'source>: Loops<'source> {
         (entry, at, last)
     }
 
-    /// Continues an attempt at byte offset `from` over the characters that are not ASCII and lead
-    /// from `state` back to it, and over the character after them, if it begins in a state without
-    /// a row. Returns the last entry, the offset after its byte, and the state before it.
+    /// Continues an attempt at the byte offset `from` over the characters that are not ASCII and
+    /// lead from `state` back to it. Also reads the next character if its first byte leads to a
+    /// state without a row. Returns the last entry, the offset after the entry's byte, and the
+    /// state before this byte.
     // In the loop the state does not change: so the steps of a character do not wait for those of
     // the one before.
     #[inline(always)]
@@ -156,8 +163,8 @@ pub(crate) trait Run<'source>: Loops<'source> {
         (state, at, state)
     }
 
-    /// Continues an attempt at byte offset `from`, in the state `first` without a row, to the end
-    /// of the character. Returns the same as [`Run::walk_characters`].
+    /// Continues an attempt at the byte offset `from`, in the state `first`, which has no row.
+    /// Reads the rest of the character. Returns the same values as [`Run::walk_characters`].
     #[inline(always)]
     fn end_character(
         rows: &'static [u32],
@@ -177,15 +184,15 @@ pub(crate) trait Run<'source>: Loops<'source> {
         (NOWHERE, at + 1, state)
     }
 
-    /// Returns whether `entry` is of the kind `kind`, whose entries have leaves. The leaf is not
-    /// extracted here, which would cost a register more.
+    /// Returns whether `entry` is of the kind `kind`, which must be a kind of entries with leaves.
+    /// Does not extract the leaf, since this would need one more register.
     #[inline(always)]
     fn has_leaf(entry: u32, kind: u32) -> bool {
         entry.wrapping_sub(kind) < Self::LEAVES as u32
     }
 
-    /// Returns the entry of the end of the input in `state`. If it leads to a state, returns
-    /// [`AGAIN`]: another attempt finds the match.
+    /// Returns the entry of the end of the input in `state`, or [`AGAIN`] if this entry leads to a
+    /// state.
     #[cold]
     #[inline(never)]
     fn end_entry(rows: &'static [u32], state: u32) -> u32 {
@@ -197,10 +204,11 @@ pub(crate) trait Run<'source>: Loops<'source> {
         }
     }
 
-    /// Repeats the attempt from byte offset `start`, byte by byte, with the marks on its way.
-    /// Returns the last leaf and the end of its match; or a number that no leaf has, and the offset
-    /// at which the attempt ended. The rows are those of the caller, which may be in another part
-    /// of the program, so that this part needs no copy.
+    /// Repeats the attempt that begins at the byte offset `start`, byte by byte, with the marks of
+    /// the states that it enters. Returns the leaf and the end of the last match. If there is no
+    /// match, returns a number that no leaf has, and the offset at which the attempt ended. The
+    /// caller passes its rows, so that the part of the program with this function needs no copy of
+    /// them.
     #[cold]
     #[inline(never)]
     fn try_again(rows: &'static [u32], bytes: &[u8], start: usize) -> (usize, usize) {
@@ -234,9 +242,11 @@ pub(crate) trait Run<'source>: Loops<'source> {
         }
     }
 
-    /// Returns the last match of the attempt that began at byte offset `start` and ended in
-    /// `state`, at the byte at `at` with `entry`, before which no match ends. Returns its leaf and
-    /// its end; or a number that no leaf has, and the offset at which the attempt ended.
+    /// Returns the leaf and the end of the last match of an attempt. If there is no match, returns
+    /// a number that no leaf has, and the offset at which the attempt ended.
+    ///
+    /// The attempt began at the byte offset `start`, and ended in `state` at the byte offset `at`.
+    /// `entry` is the entry of the byte at `at`, before which no match ends.
     #[inline(always)]
     fn match_before(
         bytes: &[u8],
@@ -261,9 +271,9 @@ pub(crate) trait Run<'source>: Loops<'source> {
         ((last >> 8) as usize - 1, end)
     }
 
-    /// Continues an attempt at byte offset `from`, in the state `first`. Returns the first entry
-    /// that leads to no state, the offset after its byte, and the state before that byte. The end
-    /// of the input counts as a byte.
+    /// Continues an attempt at the byte offset `from`, in the state `first`, up to the first entry
+    /// that leads to no state. Returns this entry, the offset after the entry's byte, and the state
+    /// before this byte. The end of the input counts as a byte.
     #[inline(always)]
     fn walk(bytes: &[u8], from: usize, first: u32) -> (u32, usize, u32) {
         let (mut state, mut at) = (first, from);
@@ -360,8 +370,8 @@ pub(crate) trait Run<'source>: Loops<'source> {
         }
     }
 
-    /// Calls [`Tables::act`] for the lexer's match of `leaf`, and returns the token or error, or
-    /// `Continue` if the match is skipped.
+    /// Calls [`Tables::act`] for the lexer's current match of `leaf`. Returns the token or the
+    /// error, or `Continue` if the match is skipped.
     #[inline(always)]
     fn act_on(lex: &mut Lexer<'source, Self>, leaf: usize) -> Step<'source, Self, ()> {
         let end = lex.end();
@@ -381,8 +391,8 @@ pub(crate) trait Run<'source>: Loops<'source> {
     }
 
     /// Takes the next item that the lexer has found ahead, or looks ahead further. Returns
-    /// `Continue` with a leaf if [`Run::act_on`] is to complete its match, and with `None` if there
-    /// is no item yet.
+    /// `Continue` with a leaf if the caller has to complete the match of this leaf with
+    /// [`Run::act_on`], and `Continue` with `None` if there is no item yet.
     #[cfg(feature = "std")]
     #[inline(always)]
     fn look(lex: &mut Lexer<'source, Self>) -> Step<'source, Self, Option<usize>> {
@@ -432,9 +442,9 @@ pub(crate) trait Run<'source>: Loops<'source> {
         }
     }
 
-    /// Returns the item of a match of `leaf` that has the lexer's span: the error if no leaf has
-    /// the number, a token, or `Continue` with the leaf if [`Run::act_on`] is to complete the
-    /// match.
+    /// Returns the item of a match of `leaf` that has the lexer's span. The item is an error if no
+    /// leaf has the number `leaf`. Returns `Continue` with the leaf if the caller has to complete
+    /// the match with [`Run::act_on`].
     #[cfg(feature = "std")]
     #[inline(always)]
     fn found(lex: &mut Lexer<'source, Self>, leaf: usize) -> Step<'source, Self, Option<usize>> {
@@ -447,15 +457,16 @@ pub(crate) trait Run<'source>: Loops<'source> {
         }
     }
 
-    /// Calls [`Tables::plain`] out of line, where it is a look-up in a table instead of a jump.
+    /// Calls [`Tables::plain`] out of line, so that the compiler translates it to a table look-up
+    /// instead of a jump.
     #[cfg(feature = "std")]
     #[inline(never)]
     fn plain_apart(leaf: usize) -> Option<Self> {
         Self::plain(leaf)
     }
 
-    /// Returns the error that the lexer has found ahead, and moves its end to the first boundary at
-    /// or after that end.
+    /// Returns the error that the lexer has found ahead. Moves the end of the error to the first
+    /// boundary at or after it.
     #[cfg(feature = "std")]
     #[inline(always)]
     fn error_ahead(lex: &mut Lexer<'source, Self>) -> Self::Error {
@@ -467,8 +478,8 @@ pub(crate) trait Run<'source>: Loops<'source> {
         Self::error(lex)
     }
 
-    /// Returns the error of an attempt that was over at byte offset `over`. The error ends at the
-    /// first boundary from there on, and has at least one byte.
+    /// Returns the error of an attempt that ended at the byte offset `over`. The error has at least
+    /// one byte, and ends at the first boundary at or after this offset.
     #[inline(always)]
     fn error_to(lex: &mut Lexer<'source, Self>, over: usize) -> Self::Error {
         let end = over.max(lex.begun() + 1);
@@ -476,8 +487,8 @@ pub(crate) trait Run<'source>: Loops<'source> {
         Self::error(lex)
     }
 
-    /// Returns whether the match that begins at byte offset `start` does not depend on the bytes
-    /// after the input: whether a byte ends the attempt.
+    /// Returns whether the match that begins at the byte offset `start` does not depend on the
+    /// bytes after the input. This is the case if a byte of the input ends the attempt.
     #[cfg(not(feature = "std"))]
     #[cold]
     fn is_sure(bytes: &[u8], start: usize) -> bool {
@@ -498,8 +509,8 @@ pub(crate) trait Run<'source>: Loops<'source> {
         false
     }
 
-    /// Returns the next item, found by match attempts, or `Continue` with the leaf of a match that
-    /// [`Run::act_on`] is to complete.
+    /// Finds the next item by match attempts. Returns the item, or `Continue` with a leaf if the
+    /// caller has to complete the match of this leaf with [`Run::act_on`].
     #[inline(always)]
     fn attempt(lex: &mut Lexer<'source, Self>) -> Step<'source, Self, usize> {
         let bytes = Self::bytes(lex.source());

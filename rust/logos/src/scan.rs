@@ -1,22 +1,23 @@
-//! The trait [`Scan`] of lexers that are tables, and its iterator over tokens with their spans.
+//! The trait [`Scan`] of enums with table-driven lexers, and its iterator over tokens with their
+//! spans.
 
 use crate::internal::Tables;
 use crate::{Lexer, Span, Way};
 use core::fmt;
 use core::ops::{Deref, DerefMut};
 
-/// An enum whose lexer is tables.
+/// An enum with a table-driven lexer.
 ///
-/// The derive macro, and `logos_cli`, implement this trait with [`Logos`](crate::Logos) in the
-/// shape `tables`.
+/// The derive macro and `logos_cli` implement this trait together with [`Logos`](crate::Logos) in
+/// the shape `tables`.
 #[diagnostic::on_unimplemented(
     message = "`{Self}` has no lexer that scans",
     label = "its lexer is no table",
     note = "`scan` is there for lexers in the shape `tables`, which is the default one"
 )]
 pub trait Scan<'source>: Tables<'source> {
-    /// Returns an iterator over the tokens and errors of `source`, with their spans. It is another
-    /// name of `Token::lexer(source).spanned()`, and equally fast.
+    /// Returns an iterator over the tokens and errors of `source`, with their spans. It yields the
+    /// same items as `Token::lexer(source).spanned()`, and is equally fast.
     fn scan(source: &'source Self::Source) -> Scanner<'source, Self>
     where
         Self::Extras: Default,
@@ -24,8 +25,8 @@ pub trait Scan<'source>: Tables<'source> {
         Lexer::new(source).scan()
     }
 
-    /// Returns an iterator over the tokens and errors of `source`, the first part of an input, that
-    /// do not depend on the bytes after this part. See [`Lexer::scan_part`].
+    /// Returns an iterator over the tokens and errors of `source` that do not depend on the bytes
+    /// after it. `source` is the first part of an input. See [`Lexer::scan_part`].
     fn scan_part(source: &'source Self::Source) -> Scanner<'source, Self>
     where
         Self::Extras: Default,

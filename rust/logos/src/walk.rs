@@ -7,66 +7,78 @@ use crate::internal::Tables;
 use crate::word::Word;
 use crate::Way;
 
-/// The costs: for a walk of each byte, each undecided entry, and each repeated attempt; for
-/// `Logos::lex` of each match and each state that it enters. The numbers are not times: they were
-/// chosen to separate measured texts on which walks are faster from those on which they are slower.
+/// The cost of a walk for each byte. The costs are not times: they were chosen to separate the
+/// measured texts on which walks are faster from the texts on which walks are slower.
 const STEP: usize = 6;
+/// The cost of a walk for each undecided entry.
 const UNDECIDED: usize = 400;
+/// The cost of a walk for each repeated attempt.
 const ATTEMPT: usize = 400;
+/// The cost of `Logos::lex` for each match.
 const MATCH: usize = 39;
+/// The cost of `Logos::lex` for each state that it enters.
 const ENTER: usize = 19;
-/// The factor of the cost of guesses. With 1, walks were chosen on texts on which many guesses
-/// fail, and were slower there.
+/// The factor by which the cost of guesses is multiplied. With a factor of 1, walks were chosen on
+/// texts on which many guesses fail, and were slower than match attempts.
 const GUESSES: usize = 2;
-/// The denominator of the limit beyond which walks are slower than match attempts: if more than
-/// three of every four bytes end a match, processors predict the branches of match attempts.
+/// The denominator of the fraction of bytes, three quarters, that limits walks. If a greater
+/// fraction of bytes end a match, processors predict the branches of match attempts, which are then
+/// faster than walks.
 const ALMOST_ALL: usize = 4;
-/// The numbers of chunks that match attempts process if walks do not save time: the least number,
-/// and the greatest, after several such decisions in a row.
+/// The minimum number of chunks that match attempts process if walks do not save time.
 const FEWEST_PLAIN: usize = 4;
+/// The maximum number of chunks that match attempts process if walks repeatedly do not save time.
 const MOST_PLAIN: usize = 64;
-/// The greatest number of bytes whose bits are set one by one.
+/// The maximum number of bytes whose bits are set one by one.
 const FEW: usize = 6;
-/// One of this many words is examined to decide whether walks save time.
+/// The number of words of which one is examined to decide whether walks save time.
 const SAMPLED: usize = 18;
 
-/// The number of bytes that are walked over after match attempts, to determine whether walks save
+/// The number of bytes of a trial walk, which determines after match attempts whether walks save
 /// time.
 const TRIAL: usize = 768;
 
-/// A walk over an input: its latest chunk, and the word of that whose tokens the lexer takes.
+/// A walk over an input, with its latest chunk and the word of this chunk whose tokens the lexer
+/// takes.
 pub(crate) struct Walk {
+    /// The latest chunk.
     chunk: Chunk,
     /// The word whose tokens the lexer takes.
     pub(crate) word: Word,
-    /// Whether the lexer was moved, so that the word does not follow its last item.
+    /// Whether the lexer was moved, so that the word does not follow the last item.
     pub(crate) is_moved: bool,
+    /// The setting that determines where the lexer looks ahead.
     pub(crate) way: Way,
-    /// The byte of the chunk before which the word is cut, if the byte's entry needs a match
-    /// attempt.
+    /// The index in the chunk of the byte before which the word is cut, because the entry of the
+    /// byte needs a match attempt. `None` if the word is not cut.
     cut: Option<usize>,
-    /// The byte offset of the chunk in the input, its length, and the row offsets before and after
-    /// it.
+    /// The byte offset of the chunk in the input.
     base: usize,
+    /// The number of bytes in the chunk.
     len: usize,
+    /// The row offset before the chunk.
     first: u32,
+    /// The row offset after the chunk.
     row_start: u32,
-    /// The cost of guesses and of repeated steps in the chunk, the cost of moves of the lexer since
-    /// the walk over it, and the time that the last walks saved.
+    /// The cost of guesses and of repeated steps in the chunk.
     cost: usize,
+    /// The cost of the moves of the lexer since the last decision about walks.
     moves: usize,
+    /// The cost that recent walks have saved.
     gain: isize,
-    /// The number of chunks that were left to match attempts when walks last did not save time,
-    /// halved by each later walk that did.
+    /// The number of chunks that match attempts processed when walks last did not save time. Each
+    /// later walk that saves time halves it.
     plain: usize,
-    /// Whether the next walk is over only [`TRIAL`] bytes.
+    /// Whether the next walk processes only [`TRIAL`] bytes.
     tries: bool,
+    /// The guesser of the rows in which blocks begin.
     guesser: Guesser,
 }
 
+/// A walk that is stored in a box.
 pub(crate) type Room = std::boxed::Box<Walk>;
 
-/// Returns a walk that has not begun, of a lexer that looks ahead in the way `way`.
+/// Returns a walk that has not begun, for a lexer that looks ahead according to `way`.
 #[cold]
 pub(crate) fn new_room(way: Way) -> Room {
     const NEW: Walk = Walk {
@@ -93,8 +105,9 @@ pub(crate) fn new_room(way: Way) -> Room {
 }
 
 impl Walk {
-    /// Returns the leaf and the end of the first token of the bits `tokens` of the word, which must
-    /// not be 0. Returns `None` if that bit is after the chunk.
+    /// Returns the leaf and the end of the first token in `tokens`, the bits of the word's tokens.
+    /// At least one bit must be set. Returns `None` if the first set bit is after the end of the
+    /// chunk.
     #[inline(always)]
     pub(crate) fn token(&self, tokens: u64) -> Option<(usize, usize)> {
         let bit = tokens.trailing_zeros() as usize;
@@ -114,9 +127,10 @@ impl Walk {
         Some(self.begin_word(at, word.here + WORD, !0, word.last_end()))
     }
 
-    /// Moves to the word that begins at byte `at` of the chunk, at byte offset `here` of the input,
-    /// where the next match begins at `start`. Returns the word's tokens: of the bits `from`, up to
-    /// an entry that needs a match attempt.
+    /// Moves to the word at the index `at` of the chunk, which is at the byte offset `here` of the
+    /// input. The first match of the word begins at the byte offset `start`. Returns the bits of
+    /// the tokens in the word, limited to the bits in `from` before the first entry that needs a
+    /// match attempt.
     #[inline(always)]
     fn begin_word(&mut self, at: usize, here: usize, from: u64, start: usize) -> u64 {
         let (ends, tokens) = self.chunk.bits(at);
@@ -135,23 +149,24 @@ impl Walk {
         tokens & left
     }
 
-    /// Returns whether the chunk has no bytes, as before the first walk or after the lexer was
-    /// moved away.
+    /// Returns whether the chunk has no bytes. This is the case before the first walk, and after
+    /// the lexer was moved out of the chunk.
     pub(crate) fn is_empty(&self) -> bool {
         self.len == 0
     }
 
-    /// Returns the byte offset in the input of the bytes after the chunk.
+    /// Returns the byte offset in the input at which the chunk ends.
     pub(crate) fn end(&self) -> usize {
         self.base + self.len
     }
 
-    /// Returns the byte of the chunk before which the word is cut, if it is.
+    /// Returns the index in the chunk of the byte before which the word is cut, or `None` if the
+    /// word is not cut.
     pub(crate) fn cut(&self) -> Option<usize> {
         self.cut
     }
 
-    /// Walks over the next chunk, after the match that ended at byte offset `start`. Returns the
+    /// Walks over the next chunk. The last match ended at the byte offset `start`. Returns the
     /// tokens of the chunk's first word.
     #[inline]
     pub(crate) fn walk<'s, T: Tables<'s>>(&mut self, bytes: &[u8], start: usize) -> u64 {
@@ -169,8 +184,8 @@ impl Walk {
         self.begin_word(0, self.base, !0, start)
     }
 
-    /// Walks over `input` as a whole chunk, and sets the length of the chunk, the row offset after
-    /// it, and the cost.
+    /// Walks over `input` as a whole chunk. Sets the length of the chunk, the row offset after it,
+    /// and the cost.
     #[inline]
     fn walk_chunk<'s, T: Tables<'s>>(&mut self, input: &[u8; CHUNK]) {
         let guesser = &mut self.guesser;
@@ -178,17 +193,20 @@ impl Walk {
         (self.len, self.row_start, self.cost) = (CHUNK, walked.row_start, walked.cost);
     }
 
-    /// Walks over `rest`, which has fewer bytes than a whole chunk, and sets the length of the
-    /// chunk, the row offset after it, and the cost.
+    /// Walks over `rest`, which has fewer bytes than a whole chunk. Sets the length of the chunk,
+    /// the row offset after it, and the cost.
     #[inline]
     fn walk_rest<'s, T: Tables<'s>>(&mut self, rest: &[u8]) {
         let walked = self.chunk.walk_rest::<T>(rest, self.row_start);
         (self.len, self.row_start, self.cost) = (rest.len(), walked.row_start, walked.cost);
     }
 
-    /// Returns the result of the match attempt that ended at byte `cut` of the chunk and began at
-    /// byte offset `start`: its leaf and the end of its match; or a number that no leaf has, and
-    /// the offset at which the attempt ended. Returns `None` if the attempt must be repeated.
+    /// Returns the leaf and the end of the match of an attempt. If there is no match, returns a
+    /// number that no leaf has, and the offset at which the attempt ended. Returns `None` if the
+    /// attempt must be repeated.
+    ///
+    /// The attempt began at the byte offset `start` of the input, and ended at the byte at the
+    /// index `cut` of the chunk.
     #[inline]
     pub(crate) fn found_at<'s, T: Tables<'s>>(
         &mut self,
@@ -215,9 +233,9 @@ impl Walk {
         }
     }
 
-    /// Lets the next match begin at byte offset `start`, and walks again as far as that changes
-    /// entries. Returns the tokens of the word there. If the offset is not in the chunk, forgets
-    /// the chunk and returns 0.
+    /// Lets the next match begin at the byte offset `start`, and repairs the entries from there on.
+    /// Returns the tokens of the word that contains the offset. If the offset is not in the chunk,
+    /// forgets the chunk and returns 0.
     #[inline]
     pub(crate) fn begin_at<'s, T: Tables<'s>>(&mut self, bytes: &[u8], start: usize) -> u64 {
         let root = <T as Folded>::ROOT;
@@ -247,7 +265,7 @@ impl Walk {
         self.begin_word(at - begun, start - begun, !0 << begun, start)
     }
 
-    /// Forgets the chunk, and lets the next match begin at byte offset `start`, in the row at
+    /// Forgets the chunk, and lets the next match begin at the byte offset `start`, in the row at
     /// `root`.
     pub(crate) fn begin_anew(&mut self, start: usize, root: u32) {
         (self.cut, self.len, self.base, self.row_start) = (None, 0, start, root);
@@ -255,8 +273,8 @@ impl Walk {
     }
 
     /// Returns the byte offset up to which match attempts find the items, or `None` if taking the
-    /// tokens of this chunk saves time. The decision is based on the walks over this chunk and the
-    /// ones before.
+    /// tokens of this chunk saves time. The decision depends on the walks over this chunk and the
+    /// preceding chunks.
     pub(crate) fn plain_to(&mut self) -> Option<usize> {
         let sampled = if self.len < CHUNK {
             SAMPLED / 6

@@ -9,7 +9,7 @@
 //! | Kind | Operand | The byte |
 //! |---|---|---|
 //! | 0 | the row offset of a state | leads to this state |
-//! | 1, `STAYS` | a test | stays in the state, whose fast loop has this test |
+//! | 1, `STAYS` | a test | does not change the state, whose fast loop has this test |
 //! | 2, `LEAVES` | a leaf, `LATE` | follows a match that is skipped without a callback |
 //! | 3, `HALTS` | a leaf, `LATE` | follows a match that is a token without a callback |
 //! | 4, `CLOSES` | a leaf | is the last byte of a match that is a token without a callback |

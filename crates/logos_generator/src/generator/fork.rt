@@ -1,5 +1,5 @@
-//! Makes forks and fast loops. `states` calls this module for each state, and `nodes` calls it for
-//! single states.
+//! Makes the fork and the fast loop of a state from its edges. Called by `states` for each state,
+//! and by `nodes` for single states.
 
 ghost use Rattle.std.specs.Prelude.{◌≡◌, ◌<◌, ◌≤◌, ◌↔◌, ◌&&◌, ◌==◌, ℕ, true, IfOk, OnOk, OnErr, IsTrue, [], ◌∷◌, length, map, option_map, find, nat_le, slice_index, None};
 ghost use Rattle.logos_generator.specs.Imports.{All, flat_map, option_or, ranges_of, has_byte, AreSeparated, comparison_of, condition_of, branch_of, entry_of, fork_of, edge_of, state_number, hit, leads_beside, Extends, IsConditionOf, AreBranchesOf, IsForkOf, IsLoopOf, cost, numbered, loop_uses, condition_uses, branch_uses, fork_uses, fork_tables, jump_table, with_tables, AddsBranch};

@@ -31,9 +31,9 @@ pub enum Opening {
     Word,
     /// A number.
     Number,
-    /// A string that has escapes.
+    /// A string that is not raw, with the kind of its contents. It can contain escapes.
     Quotes(Content),
-    /// A raw string, with the number of `#` before its quote.
+    /// A raw string, with the kind of its contents and the number of `#` before its quote.
     Raw(Content, u8),
     /// An escaped character, or a byte, between apostrophes.
     Apostrophes(Content),

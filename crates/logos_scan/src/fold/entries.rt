@@ -11,10 +11,10 @@ use logos_code::code::rows::{
 };
 use logos_hir::leaf::LeafId;
 
-/// The flag of an entry where a match of a leaf that may have a callback ends before the byte.
+/// The flag of an entry before whose byte a match of a leaf ends, if the leaf may have a callback.
 pub const CALLS: u32 = 1 << 29;
 
-/// The number of entries of one kind in the rows of a code.
+/// The number of possible entries of each kind in the rows of a code.
 const NAMED: u32 = 1 << 28;
 
 /// The maximum number of entries that folded rows can have.
@@ -48,8 +48,8 @@ fn step_of(entry: u32) -> Step
     }
 }
 
-/// Returns the step of a match that ends before its byte. `named` is the operand of the byte's
-/// entry, and `used` the use of the match.
+/// Returns the step of a byte before which a match ends. `named` is the operand of the byte's
+/// entry, and `used` is the use of the match.
 fn before(named: u32, used: MatchUse) -> Step
     requires { named < NAMED }
     ensures { IsStepOf (first_halting used + named) result }
@@ -112,7 +112,7 @@ fn flags(used: MatchUse) -> u32
 }
 
 /// Returns the entry of a byte before which a match of this leaf and use ends. `row_start` is the
-/// row offset of the state in which the next attempt is after the byte.
+/// row offset of the next attempt's state after the byte.
 fn ended(leaf: LeafId, used: MatchUse, row_start: usize) -> u32
     requires leaf { leaf.0 < LEAVES_NAMED }
     requires row_start { row_start < ENTRIES }
@@ -122,7 +122,7 @@ fn ended(leaf: LeafId, used: MatchUse, row_start: usize) -> u32
 }
 
 /// Returns the entry of a byte that does not continue the attempt. `row_start` is the row offset of
-/// the state in which a new attempt is after the byte.
+/// a new attempt's state after the byte.
 fn fold_end(code: &Code, state: usize, byte: u8, row_start: usize) -> u32
     requires few { IsFew code.now }
     requires state { state < length code.now.states }
@@ -154,7 +154,7 @@ fn fold(code: &Code, state: usize, byte: u8) -> u32
     }
 }
 
-/// Returns the folded row of the state: the entries of all bytes, and 16 unused ones.
+/// Returns the folded row of the state: the entries of all bytes, followed by 16 unused entries.
 pub(crate) fn row_of(code: &Code, state: usize) -> [u32; 272]
     requires few { IsFew code.now }
     requires sound { IsSound code.now }

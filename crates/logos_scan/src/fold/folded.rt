@@ -9,7 +9,7 @@ use logos_code::code::rows::WIDTH;
 use std::alloc::{AllocError, Global};
 use std::marker::Model;
 
-/// A code with its folded rows. The module `walk` describes their entries.
+/// A code with its folded rows. The module `walk` describes the entries of folded rows.
 #[derive(Drop)]
 pub struct Folded<'c, 's> {
     code: &'c Code<'s>,
@@ -57,7 +57,7 @@ impl<'c, 's> Folded<'c, 's> {
     }
 
     /// Returns the rows of all states, one after another, with `WIDTH` entries each. The entry for
-    /// byte `b` in state `s` is entry `WIDTH * s + b`.
+    /// the byte `b` in the state `s` is at the index `WIDTH * s + b`.
     pub fn rows(&self) -> &[u32]
         ensures rows { result.now ≡ self.now.rows }
         ensures folded { AreFolded self.now.code self.now.rows }

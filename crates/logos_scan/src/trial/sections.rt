@@ -1,8 +1,9 @@
-//! Divides match attempts into sections, and predicts them. Called by `trial` for each entry.
+//! Divides match attempts into sections, and predicts the sections. Called by `trial` for each
+//! entry.
 //!
 //! A section ends where a fast loop or an attempt ends. In sections with equal codes, a lexer takes
-//! equal branches. A processor predicts branches by those before, so sequences of sections that are
-//! repeated take less time than others.
+//! equal branches. A processor predicts a branch from the preceding branches, so repeated sequences
+//! of sections take less time than new ones.
 
 use crate::walk::{OFFSET_MASK, TOKEN};
 
@@ -22,12 +23,12 @@ pub(crate) struct Section {
     row_start: u32,
     /// The number of bytes of the section that led to another row.
     entered: u32,
-    /// The number of bytes after them, which stay in the row.
+    /// The number of bytes after these that did not change the row.
     stayed: u32,
 }
 
 impl Section {
-    /// Returns the section before a byte with which it begins, in the row `row_start`.
+    /// Returns an empty section, which begins in the row `row_start`.
     pub(crate) fn new(row_start: u32) -> Section {
         Section {
             row_start,
@@ -42,7 +43,8 @@ impl Section {
         (entry < TOKEN) & (entry != self.row_start)
     }
 
-    /// Returns whether the byte of the entry is the first one that stays in the row.
+    /// Returns whether the byte of the entry is the first byte of the section that does not change
+    /// the row.
     #[inline(always)]
     pub(crate) fn begins_loop(self, entry: u32) -> bool {
         (entry == self.row_start) & (self.stayed == 0)
@@ -54,8 +56,8 @@ impl Section {
         (entry >= TOKEN) | ((self.stayed > 0) & (entry != self.row_start))
     }
 
-    /// Returns the code of the section that ends before the byte of the entry: a number below 256,
-    /// and not 0.
+    /// Returns the code of the section that ends before the byte of the entry. The code is a number
+    /// from 1 to 255.
     #[inline(always)]
     pub(crate) fn code(self, entry: u32) -> u32 {
         let length = ((self.stayed > 0) as u32).wrapping_add((self.stayed > NEAR) as u32);
@@ -89,8 +91,8 @@ impl Section {
     }
 }
 
-/// Predicts the code of each section: by a hash of the eight codes before, the code that followed
-/// them the last time. A code of 0 is not known.
+/// A predictor of the codes of sections. For each hash of eight consecutive codes, it stores the
+/// code that followed them the last time, or 0 if no code is known.
 #[derive(Drop)]
 pub(crate) struct Predictor {
     codes: [u32; 1024],
@@ -106,8 +108,8 @@ impl Predictor {
         }
     }
 
-    /// Returns whether the code of the next section differs from the predicted one, and passes this
-    /// section.
+    /// Returns whether `code`, the code of the next section, differs from the predicted code.
+    /// Records `code`.
     pub(crate) fn misses(&mut self, code: u32) -> bool {
         // The upper ten bits of a product depend on all codes of the history.
         let index = (self.history.wrapping_mul(SPREADING) >> 22) as usize;

@@ -7,8 +7,8 @@ use crate::walk::guess::guess_row_starts;
 use crate::walk::repair::{Stretch, repair};
 use crate::walk::step;
 
-/// The number of blocks of a chunk. They are walked in parallel: a step depends on the step before
-/// it, so that a single walk would leave a processor idle.
+/// The number of blocks of a chunk. The blocks are walked over in parallel, since each step depends
+/// on the preceding step, so that a single walk would leave the processor partly idle.
 pub const BLOCKS: usize = 6;
 
 /// The number of bytes of a block.
@@ -17,8 +17,8 @@ pub const BLOCK: usize = 768;
 /// The number of bytes of a chunk.
 pub const CHUNK: usize = 4608;
 
-/// Steps over one byte of each block, whose index in its block is `at`. Writes the entry of the
-/// byte into `trace`, and replaces the block's row in `row_starts` by the row after the byte.
+/// Steps over the byte at the index `at` of each block. Writes the entries of these bytes into
+/// `trace`, and replaces each block's row in `row_starts` by the row after the byte.
 #[inline(always)]
 fn column(rows: &[u32], text: &[u8], row_starts: &mut [usize; 6], trace: &mut [u32], at: usize)
     requires closed { IsClosed rows.now }
@@ -38,8 +38,8 @@ fn column(rows: &[u32], text: &[u8], row_starts: &mut [usize; 6], trace: &mut [u
 }
 
 /// Steps over the blocks in turns, each from its row in `row_starts` on. Writes the entries into
-/// `trace`, and replaces the rows by those after the blocks. Called out of line, so that all
-/// registers are available to it.
+/// `trace`, and replaces each row by the row after the block. Called out of line, so that all
+/// registers are available to the function.
 #[inline(never)]
 fn walk_blocks(rows: &[u32], text: &[u8], row_starts: &mut [usize; 6], trace: &mut [u32])
     requires closed { IsClosed rows.now }
@@ -56,9 +56,9 @@ fn walk_blocks(rows: &[u32], text: &[u8], row_starts: &mut [usize; 6], trace: &m
     *row_starts = now;
 }
 
-/// Steps over a chunk from the row `row_start` on: writes the entries of its bytes into `trace`,
-/// and returns the row after it. All blocks but the first begin in rows that are guessed with the
-/// row `root` of new attempts. A block whose guess was wrong is repaired.
+/// Steps over a chunk from the row `row_start` on. Writes the entries of its bytes into `trace`,
+/// and returns the row after the chunk. The rows in which all blocks but the first begin are
+/// guessed with the row `root` of new attempts. A block is repaired if its guess was wrong.
 pub fn walk_chunk(
     rows: &[u32],
     text: &[u8],

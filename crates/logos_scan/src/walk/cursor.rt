@@ -7,18 +7,18 @@ ghost use Rattle.logos_scan.specs.walk.Views.{HasRoom, Finds, Finishes, IsInWord
 use crate::walk::blocks::CHUNK;
 use crate::walk::masks::ChunkEntries;
 
-/// A point of a scan in a chunk: before the entry `from`, in a word of flags. `tokens` has the
-/// flags of the word's pending entries that are left, and `ends` those of the ends of matches in
-/// the word. The last end before an entry is computed only when it is requested, so that `next`
-/// changes only the flags that it passes.
+/// A point of a scan in a chunk: before the entry `from`, in a word of flags. `tokens` contains the
+/// flags of the pending entries in the word that have not been passed, and `ends` contains the
+/// flags of the ends of matches in the word. The last end before an entry is computed only when it
+/// is requested, so that `next` changes only the flags that it passes.
 #[derive(Clone, Copy, Drop)]
 pub struct ChunkCursor {
     /// The offset of the chunk in the input, in bytes.
     pub base: usize,
     /// The index of the first entry that has not been passed.
     pub from: usize,
-    /// The offset in the input at which the attempt begins that is active before the first end of
-    /// the word.
+    /// The start of the attempt that is active before the first end of the word, as an offset in
+    /// the input.
     pub word_start: usize,
     word: usize,
     tokens: u64,
@@ -49,8 +49,8 @@ impl ChunkCursor {
         }
     }
 
-    /// Returns the start of the attempt that is active after some ends of the word, whose bits are
-    /// set in `bits`.
+    /// Returns the start of the attempt that is active after the ends whose bits are set in `bits`.
+    /// The ends must be in the word.
     #[inline(always)]
     fn start_after(self, bits: u64) -> usize
         requires room { HasRoom self.base }
@@ -75,7 +75,7 @@ impl ChunkCursor {
         self.start_after(self.ends & before)
     }
 
-    /// Returns the cursor before the next word. This word must have no pending entry left.
+    /// Returns the cursor before the next word. The current word must have no pending entry left.
     #[inline(always)]
     fn moved(self, chunk: &ChunkEntries) -> ChunkCursor
         requires marked { IsMarked chunk.now }
@@ -98,8 +98,8 @@ impl ChunkCursor {
         }
     }
 
-    /// Returns the cursor in the first word from this one on that has a pending entry left, or in
-    /// the last word if there is none.
+    /// Returns the cursor in the first word that has a pending entry left, from the current word
+    /// on, or in the last word if no word has one.
     #[inline(always)]
     fn filled(self, chunk: &ChunkEntries) -> ChunkCursor
         requires marked { IsMarked chunk.now }
@@ -119,9 +119,9 @@ impl ChunkCursor {
         cursor
     }
 
-    /// Returns the index of the next pending entry, and passes it. If there is none, returns
-    /// `None`: all entries are passed, and the attempt that is active at the end began at
-    /// `word_start`.
+    /// Passes the next pending entry, and returns its index. If no pending entry is left, passes
+    /// all entries, and returns `None`. The attempt that is active at the end of the chunk then
+    /// began at `word_start`.
     #[inline(always)]
     pub fn next(&mut self, chunk: &ChunkEntries) -> Option<usize>
         requires marked { IsMarked chunk.now }

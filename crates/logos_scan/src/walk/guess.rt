@@ -23,7 +23,7 @@ fn after(rows: &[u32], byte: u8, row_start: usize, root: usize) -> usize
 }
 
 /// Steps over one byte before each block but the first, from the block's row in `row_starts` on,
-/// and replaces this row. `at` is the index of the byte among those that are examined.
+/// and replaces this row. `at` is the index of the byte among the examined bytes.
 #[inline(always)]
 fn step_before(rows: &[u32], text: &[u8], root: usize, row_starts: &mut [usize; 6], at: usize)
     requires closed { IsClosed rows.now }
@@ -39,10 +39,11 @@ fn step_before(rows: &[u32], text: &[u8], root: usize, row_starts: &mut [usize; 
     }
 }
 
-/// Returns guesses of the rows in which blocks begin. The guess for a block is the row to which the
-/// bytes after the last line end lead from the root, among a few bytes before the block; for the
-/// first block it is the root. Any row is correct, and a good guess is fast. All guesses are made
-/// in parallel, as blocks are walked.
+/// Returns guesses of the rows in which blocks begin. For the first block, the guess is the root.
+/// For any other block, it is the row to which the examined bytes before the block lead from the
+/// root. If these bytes contain a line end, only the bytes after the last line end count. Any guess
+/// is correct, and a good guess saves time. All guesses are made in parallel, as blocks are walked
+/// over.
 #[inline(always)]
 pub fn guess_row_starts(rows: &[u32], text: &[u8], root: usize) -> [usize; 6]
     requires closed { IsClosed rows.now }

@@ -89,7 +89,7 @@ fn flags_of(trace: &[u32], at: usize) -> (u64, u64)
 }
 
 impl ChunkEntries {
-    /// Returns a chunk whose entries are 0, without flags.
+    /// Returns a chunk in which all entries and flags are 0.
     pub fn new() -> ChunkEntries
         ensures entries { result.entries ≡ replicate CHUNK 0 }
         ensures ends { result.ends ≡ replicate WORDS 0 }
@@ -102,7 +102,7 @@ impl ChunkEntries {
         }
     }
 
-    /// Computes the words of flags from the entries: those from index `from` up to but not
+    /// Computes words of flags from the entries: the words from the index `from` up to but not
     /// including `to`.
     pub fn mark(&mut self, from: usize, to: usize)
         requires order { from ≤ to }

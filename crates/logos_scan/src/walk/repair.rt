@@ -1,4 +1,4 @@
-//! Repairs a walk that began in a wrong row, by steps over its bytes from the right row on. Called
+//! Repairs a walk that began in a wrong row by steps over its bytes from the right row on. Called
 //! by `blocks` and `run`.
 
 ghost use Rattle.std.specs.Prelude.{◌≡◌, ◌<◌, ◌≤◌, length};
@@ -16,7 +16,7 @@ pub struct Stretch {
     pub end: usize,
 }
 
-/// The result of `repair`: the row after the stretch, and the end of the entries that were written.
+/// The result of `repair`.
 #[derive(Clone, Copy, Drop)]
 pub struct Repaired {
     /// The row after the last byte of the stretch.

@@ -1,6 +1,6 @@
 //! The details of faults: typed data in addition to the message. The crates that read a source
-//! record a detail with each fault. Reports and helps match on the detail instead of parsing the
-//! message.
+//! record a detail with each fault. The code for reports and help texts matches on the detail
+//! instead of parsing the message.
 
 use crate::token::Span;
 use logos_lexeme::lexeme::LexicalKind;

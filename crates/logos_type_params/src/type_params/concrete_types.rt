@@ -50,7 +50,7 @@ fn copy_concrete<'s>(
     copy_given(types, name.text)
 }
 
-/// Reports that the declared name `name` has no type.
+/// Reports that the type parameter `name` has no concrete type.
 fn report_missing(name: Ident<'_>, errors: &mut Errors) -> Result<(), Memory>
     ensures { OnOk result (errors.new ≡ errors.old ++ no_concrete_type (named_of name.entry) ∷ []) }
 {
@@ -63,7 +63,8 @@ fn report_missing(name: Ident<'_>, errors: &mut Errors) -> Result<(), Memory>
     )
 }
 
-/// Appends the type in `found` to `types`. If `found` is `None`, reports that `name` has no type.
+/// Appends the type in `found` to `types`. If `found` is `None`, reports that the type parameter
+/// `name` has no concrete type.
 fn add_or_report<'s>(
     found: Option<TypeExpr<'s>>,
     name: Ident<'s>,
