@@ -14,8 +14,8 @@ The libraries of a crate are those that its `.rt` and `.antt` files cite, as `NA
 ``32 for `NAME` ``: each of these numbers is compared, and `--write` writes it.
 
 The purpose of a crate is the first paragraph of the comment at the top of its `src/lib.rt` or
-`src/main.rt`. Its dependents are the crates that name it. The last line is
-`crates_page: N passed, M failed`: a crate counts as one, and so does the page."""
+`src/main.rt`. The last line is `crates_page: N passed, M failed`: a crate counts as one, and so
+does the page."""
 import glob
 import os
 import re
@@ -127,15 +127,11 @@ def with_counts(text, found):
 
 def page(found):
     """Returns the text of the page."""
-    used = users(found)
     out = [HEAD]
     for title, about, crates in found:
         out.append(f"\n## {title}\n\n" + textwrap.fill(about[0].upper() + about[1:] + ("" if about.endswith(".") else "."), WIDTH) + "\n")
         for name in crates:
-            by = ", ".join(f"`{it}`" for it in used.get(name, []))
             out.append("\n" + textwrap.fill(f"**`{name}`**: {purpose(name)}", WIDTH) + "\n")
-            if by:
-                out.append(textwrap.fill(f"Dependents: {by}.", WIDTH) + "\n")
     return "".join(out)
 
 
