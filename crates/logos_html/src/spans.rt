@@ -93,8 +93,8 @@ fn push_head(html: &mut Html, leaves: &[Leaf<'_>], item: Item<'_>)
     }
 }
 
-/// Appends the description of an item as an attribute, unless it is empty, and ends the start tag
-/// of the item.
+/// Appends the description of an item as an attribute, unless the description is empty. Ends the
+/// start tag of the item's HTML span.
 fn push_description(html: &mut Html, description: &str)
     ensures { Gains (description_text description.now) html.old html.new }
 {
@@ -154,8 +154,8 @@ fn priority_at(leaves: &[Leaf<'_>], leaf: usize) -> usize
     }
 }
 
-/// Appends the rest of the label of an item, with the item's location and span, and the attribute
-/// with the item's span for programs.
+/// Appends the rest of the label of an item, with the item's location and span. Also appends the
+/// attribute `data-span`, from which programs read the item's span.
 fn push_label_end(html: &mut Html, span: Span, location: Location)
     ensures { Gains (label_end span.from span.to location) html.old html.new }
 {
@@ -182,7 +182,8 @@ fn push_extent(html: &mut Html, span: Span)
     push_range(html, span);
 }
 
-/// Appends the end of the label of an item, and the attribute with the item's span for programs.
+/// Appends the end of the label of an item, and the attribute `data-span`, from which programs read
+/// the item's span.
 fn push_data(html: &mut Html, span: Span)
     ensures { Gains (span_data span.from span.to) html.old html.new }
 {
