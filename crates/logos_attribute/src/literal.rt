@@ -52,8 +52,8 @@ fn text_in<'s>(alloc: Global, token: token::Literal<'s>) -> Result<Option<Litera
     Ok(Literal::read(alloc, &token)?)
 }
 
-/// Reads the literal `token` as a string or byte string. If `token` is neither, reports it and
-/// returns `None`.
+/// Reads the literal `token` as a string or byte string. If `token` is neither, reports the literal
+/// and returns `None`.
 ///
 /// # Errors
 ///
