@@ -40,8 +40,8 @@ fn strip_tokens<'s>(alloc: Global, stream: &TokenStream<'s>) -> Result<TokenStre
 ///
 /// # Errors
 ///
-/// Returns `Memory` if memory runs out, or `Errors` with one fault, which ends the reading. The fault
-/// is:
+/// Returns `Memory` if memory runs out, or `Errors` with one fault, which ends the reading. The
+/// fault is:
 ///
 /// - `LimitSource` if the source is longer than 16 MiB.
 /// - `Lexical` if the source cannot be split into tokens.
