@@ -55,7 +55,7 @@ pub struct ByteOrigin {
     /// belongs to a substituted subpattern or to the group around the text of a subpattern.
     pub own: Option<usize>,
     /// The span of the name in the definition of the first subpattern that was substituted before
-    /// the byte, or `None` if there is no such subpattern.
+    /// the byte or contains the byte, or `None` if there is no such subpattern.
     pub put_in: Option<Span>,
 }
 
