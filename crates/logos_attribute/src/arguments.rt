@@ -1,5 +1,5 @@
-//! Reads the values in an attribute's argument one after another. `AttributeParser::parsed` is part
-//! of the public interface, but in this repository only tests call it.
+//! Reads the values in the arguments of an attribute one after another. `AttributeParser::parsed`
+//! is part of the public interface, but in this repository only tests call it.
 
 ghost use Rattle.std.specs.Prelude.{◌≡◌, ◌≢◌, List, Option, None, IfOk, OnOk, OnErr, MatchOption, option_map};
 ghost use Rattle.logos_attribute.specs.Imports.{result_ok, Fault, TokenList, none, run_span, tokens_of, type_tree, ReadsValue, literal_view, literal_report, up_to_comma, after_comma, pieces, IsReport};

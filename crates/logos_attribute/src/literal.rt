@@ -1,4 +1,4 @@
-//! Reads strings and byte strings in an attribute's argument. The readers of definitions, of
+//! Reads strings and byte strings in the arguments of an attribute. The readers of definitions, of
 //! subpatterns and of the path of `export_dir` call these functions.
 
 ghost use Rattle.std.specs.Prelude.{◌≡◌, OnOk, OnErr, IfOk, option_map};

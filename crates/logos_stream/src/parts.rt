@@ -86,8 +86,8 @@ impl<R: Read + Drop> Parts<R> {
         self.before
     }
 
-    /// Returns whether the part is the last one: whether the last successful call of `read` read no
-    /// bytes.
+    /// Returns whether the part is the last part of the input, that is, whether the last successful
+    /// call of `read` read no bytes.
     pub fn is_last(&self) -> bool
         ensures { result ≡ self.now.is_over }
     {
