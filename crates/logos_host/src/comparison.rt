@@ -1,5 +1,5 @@
-//! Declares the comparison of files with bytes, and with each other. Used by `logos_cli` for
-//! `--check`, by `logos_options` for `--version`, and by `logos_show`.
+//! Declares the trait `ComparableFiles`, which compares files with bytes and with each other. Used
+//! by `logos_cli` for `--check`, by `logos_options` for `--version`, and by `logos_show`.
 
 ghost use Rattle.std.specs.Prelude.{◌≡◌, ℕ, List, Bool, ⊤, IfOk};
 ghost use Rattle.logos_host.specs.declared.comparison.Occurrence.{Occurrence as OccurrenceValue};
@@ -47,7 +47,7 @@ pub trait ComparableFiles: Files {
     /// Returns `AllocError` if memory runs out.
     fn found_bytes(&self, path: &str) -> Result<Vec<u8>, AllocError>;
 
-    /// Returns whether two paths lead to one regular file, directly or through links.
+    /// Returns whether both paths lead to one regular file, directly or through links.
     fn is_same_file(&self, one: &str, other: &str) -> bool
         ensures { Self.same_finds self.now one.now other.now result };
 }

@@ -61,7 +61,7 @@ pub fn row_of<'l>(
     })
 }
 
-/// Returns the name of a leaf's variant, or `None` for a skip. `kind` is the kind of the leaf.
+/// Returns the name of the variant of a leaf with the kind `kind`, or `None` for a skip.
 fn variant_name<'l>(kind: &'l VariantKind<'_>) -> Option<&'l str>
     ensures { option_copied result ≡ variant_name kind.now }
 {

@@ -1,4 +1,4 @@
-//! Selects an enum by its name among the enums of a file that derive `Logos`. Used by `choice`.
+//! Selects, by its name, one of the enums of a file that derive `Logos`. Used by `choice`.
 
 ghost use Rattle.std.specs.Prelude.{◌≢◌, ◌↔◌, All, Contains, IfOk, IsTrue, MatchOption, OnOk};
 ghost use Rattle.logos_show.specs.Views.{AddsCandidate, AreCandidates, EndsWith, EndsWithPath, HasName, HasPath, IsOther, IsSelected, Selects};

@@ -21,9 +21,12 @@ use std::io::Write;
 ///
 /// # Errors
 ///
-/// Returns `Refused` if a file has no requested enum or the enum has no lexer, `Read` or `NotText`
-/// if the other file cannot be read, `Output` or `Closed` if writing fails, and `Memory` if memory
-/// runs out.
+/// Returns:
+///
+/// - `Refused` if a file has no requested enum or the enum has no lexer.
+/// - `Read` or `NotText` if the other file cannot be read.
+/// - `Output` or `Closed` if writing fails.
+/// - `Memory` if memory runs out.
 pub(crate) fn compare<'w, F: Files, O: Write, E: Write>(
     task: Task<'w>,
     source: &Source<'_>,

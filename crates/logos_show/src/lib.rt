@@ -1,4 +1,5 @@
-//! The program `logos_show`: it shows the lexers of a Rust file, and lexes other files with them.
+//! Runs `logos_show`, a program that shows the lexers of a Rust file and lexes other files with
+//! these lexers.
 
 #![tactic(auto)]
 
