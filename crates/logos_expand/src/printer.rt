@@ -146,7 +146,7 @@ fn margin_at(text: &str, offset: usize) -> &str
     }
 }
 
-/// Returns the text after the last LF of a text, or the whole text if it has no LF.
+/// Returns the text after the last LF of `text`, or all of `text` if `text` has no LF.
 fn last_line(text: &str) -> &str {
     match text.rsplit_once('\n') {
         Some((_, line)) => line,
@@ -201,9 +201,9 @@ fn notes_of(
     Ok(notes)
 }
 
-/// Returns the text `lexer` with its attributes. The import of `Logos` precedes the text if
-/// `by_name` is `true`. The import and `lexer` each have the `cfg` attributes of the enum with the
-/// tokens `left`.
+/// Returns the text `lexer` with the attributes of an implementation. The import of `Logos`
+/// precedes the text if `by_name` is `true`. Both the import and `lexer` have the `cfg` attributes
+/// of the enum with the tokens `left`.
 fn under(alloc: Global, by_name: bool, left: Tokens<'_, '_>, lexer: &str) -> Result<String, Memory>
     ensures { IfOk result (λ text.
         string_bytes text ≡ under by_name (tokens_of left.entry) lexer.now) }

@@ -15,10 +15,10 @@ const LINKS: usize = 40;
 const RIGHTS: u32 = 0o777;
 
 /// Writes `bytes` to the file at `path` entirely or not at all. If there is no such file, first
-/// creates the missing folders of its path. The created folders remain if a later step fails.
+/// creates the missing folders of `path`. The created folders remain if a later step fails.
 ///
-/// If `path` is the path of a link, replaces the target of the link, or creates the target if it
-/// does not exist. Writes to a device or a pipe directly.
+/// If `path` is the path of a link, replaces the target of the link, or creates the target if the
+/// target does not exist. Writes to a device or a pipe directly.
 pub(crate) fn write_whole<R: Files + AllocGlobal + Clone + Drop>(
     rt: &R,
     path: &str,
@@ -88,8 +88,8 @@ fn keep_owner<R: Files>(rt: &R, path: &str, old: &Metadata) -> io::Result<()> {
     fs::set_permissions(rt, path, permissions)
 }
 
-/// Creates the missing file at `path` with the content `bytes`, and the missing folders of its
-/// path.
+/// Creates the missing file at `path` with the content `bytes`. First creates the missing folders
+/// of `path`.
 fn create_file<R: Files + AllocGlobal + Clone + Drop>(
     rt: &R,
     path: &str,

@@ -10,7 +10,7 @@ use std::alloc::AllocError;
 /// The result of comparing a file with bytes.
 #[derive(Clone, Copy, Debug, PartialEq, Eq)]
 pub enum Occurrence {
-    /// The file has exactly these bytes.
+    /// The content of the file consists of exactly these bytes.
     Same,
     /// The file has other bytes, cannot be read, or is a folder, a device or a pipe.
     Differs,
@@ -27,7 +27,7 @@ pub trait ComparableFiles: Files {
     // Holds if two paths lead to one file.
     ghost same_finds: { Self → List ℕ → List ℕ → Bool → Type 0 } = { λ _ _ _ _. ⊤ };
 
-    /// Compares the file at `path` with `bytes`. Reads the file only if it is a regular file.
+    /// Compares the file at `path` with `bytes`. Reads the file only if the file is a regular file.
     ///
     /// # Errors
     ///

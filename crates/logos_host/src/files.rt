@@ -17,7 +17,7 @@ pub enum FileError {
     Memory,
 }
 
-/// Files that are read and written by their paths.
+/// Access to files by their paths.
 pub trait Files {
     // Relates the files before a read, the path, all bytes that are read, and the files after it.
     ghost read_yields: { Self → List ℕ → List ℕ → Self → Type 0 } = { λ _ _ _ _. ⊤ };

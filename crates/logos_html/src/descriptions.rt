@@ -59,7 +59,8 @@ pub(crate) fn new_budget() -> Budget {
     }
 }
 
-/// Returns `items` with their descriptions. The steps for the descriptions are taken from `budget`.
+/// Returns each of `items` with its description. The steps for the descriptions are taken from
+/// `budget`.
 ///
 /// # Errors
 ///
@@ -195,8 +196,8 @@ fn close(budget: &mut Budget, from: usize) {
     }
 }
 
-/// Returns the maximum number of lines about an item that add nothing to its label: one line for
-/// the verdict, and one for the match unless the item is an error.
+/// Returns the maximum number of lines about an item that add nothing to the label of the item: one
+/// line for the verdict, and one for the match unless the item is an error.
 fn usual_lines(item: Item<'_>) -> usize {
     match item {
         Item::Token { .. } => 2,

@@ -169,8 +169,8 @@ fn rest_of(
     html.finish()
 }
 
-/// Appends the end of the section of the input, if there is an input, and the section of the
-/// states.
+/// Appends the section of the states, preceded by the end of the section of the input if there is
+/// an input.
 fn push_input_states(
     alloc: Global,
     html: &mut Html,

@@ -125,7 +125,7 @@ fn push_callback_cell(html: &mut Html, row: LeafRow<'_>) {
     html.push_markup("</td>");
 }
 
-/// Appends the cell with the line of a leaf in its file.
+/// Appends the cell with the number of the line of a leaf in its file.
 fn push_line_cell(html: &mut Html, line: usize) {
     html.push_markup("<td class=\"n\">");
     html.push_number(line);

@@ -18,7 +18,7 @@ pub struct LeafRow<'l> {
     pub variant: Option<&'l str>,
     /// Whether the leaf is a `token`, as opposed to a `regex` or a `skip`.
     pub is_token: bool,
-    /// The literal as written in the source, with its quotes.
+    /// The literal as written in the source, including the quotes.
     pub pattern: &'l str,
     /// The options of the leaf's definition.
     pub options: LeafOptions,

@@ -17,8 +17,8 @@ pub(crate) struct ShownLine<'l> {
     pub(crate) mark: &'static str,
 }
 
-/// Appends a text to `block`, and ends each line of the text with LF. If `width` is not `None`,
-/// cuts each line to `width` columns.
+/// Appends a text to `block`. The text is unchanged if `width` is `None`. Otherwise, each line of the
+/// text is cut to `width` columns and ends with LF.
 ///
 /// # Errors
 ///
@@ -41,7 +41,7 @@ fn push_lines(block: &mut Vec<u8>, text: &str, width: Option<usize>) -> Result<(
     Ok(())
 }
 
-/// Appends the shown part of a line to `block`, with its mark and a line end.
+/// Appends the shown part of a line to `block`, followed by the mark of the line and a line end.
 fn push_front(block: &mut Vec<u8>, front: ShownLine<'_>) -> Result<(), AllocError>
     ensures { OnOk result (block.new.items ≡ block.old.items
         ++ (front.entry.text.now ++ (front.entry.mark.now ++ 10 ∷ []))) }

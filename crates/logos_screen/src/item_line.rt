@@ -26,7 +26,7 @@ struct ItemParts<'l> {
     text: &'l str,
 }
 
-/// The kind of a part of an item's line. Each kind has its own style.
+/// The kind of a part of an item's line. The kind determines the style of the part.
 #[derive(Clone, Copy, Debug, PartialEq, Eq)]
 pub(crate) enum ItemPart {
     /// The location: bold and blue, like the frame of a report.

@@ -1,5 +1,5 @@
-//! Adapts an output to the screen on which it is shown: to the colors and the width of the screen.
-//! Used by `logos_cli`, `logos_items` and `logos_show`.
+//! Adapts an output to the colors and the width of the screen that shows the output. Used by
+//! `logos_cli`, `logos_items` and `logos_show`.
 
 #![tactic(auto)]
 

@@ -1,4 +1,4 @@
-//! Determines the form in which an output is shown: its colors and its width. Used by
+//! Determines the form in which an output is shown: the colors and the width of the output. Used by
 //! `color_output`, `item_line`, `logos_items` and `logos_show`.
 
 ghost use Rattle.std.specs.Prelude.{◌≡◌};

@@ -195,8 +195,8 @@ fn no_lexer_text(alloc: Global, file: &str, name: Option<&str>) -> Result<String
     page.finish()
 }
 
-/// Returns the refusal of a name that selects several enums. `enums` contains two of these enums,
-/// which have different paths. Returns `Memory` if memory runs out.
+/// Returns the refusal of a name that selects several enums. `enums` contains two of these enums.
+/// The two enums have different paths. Returns `Memory` if memory runs out.
 fn several(
     alloc: Global,
     source: &Source<'_>,
@@ -307,8 +307,8 @@ fn first_enum(alloc: Global, source: &Source<'_>, found: &[FoundEnum]) -> Result
     Ok(chosen_of(choice))
 }
 
-/// Returns the enums of a choice: `Nothing` if the choice is empty, `One` if it has only a first
-/// enum, and `Several` otherwise.
+/// Returns the enums of a choice: `Nothing` if the choice is empty, `One` if the choice has only a
+/// first enum, and `Several` otherwise.
 fn chosen_of(choice: Choice) -> Chosen
     ensures { chosen_first result ≡ choice.first }
 {

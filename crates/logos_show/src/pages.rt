@@ -83,8 +83,8 @@ pub(crate) fn shown_of(
     shown_by(source, pages, !has_lexer(&file.found))
 }
 
-/// Returns the output for the enums in `found`, or for the enums among them that `name` selects.
-/// `lines` is the index of the lines of the file.
+/// Returns the output for the enums in `found`, or only for those that `name` selects if `name` is
+/// not `None`. `lines` is the index of the lines of the file.
 fn pages_of<'f, 's>(
     source: &'f Source<'s>,
     lines: &'f LineIndex<'s>,
@@ -180,8 +180,8 @@ fn push_enum(
     Ok(())
 }
 
-/// Appends the output for an enum that derives `Logos` to `pages`. Returns the refusal of the enum
-/// if it has no lexer.
+/// Appends the output for an enum that derives `Logos` to `pages`. If the enum has no lexer,
+/// returns the refusal of the enum.
 fn push_lexer(
     alloc: Global,
     pages: &mut Pages,

@@ -315,8 +315,8 @@ fn answer_about<'w, F: Files, C: Clock + StandardInput, O: Write, E: Write>(
     }
 }
 
-/// Writes the items of the input that the question names. Items of standard input are written as
-/// soon as they are found, unless they are written as JSON.
+/// Writes the items of the input that the question names. If the input is standard input and the
+/// items are not written as JSON, writes each item as soon as the item is found.
 fn lex_any<'w, F: Files, C: Clock + StandardInput, O: Write, E: Write>(
     task: Task<'w>,
     source: &Source<'_>,

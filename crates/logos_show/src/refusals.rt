@@ -96,8 +96,8 @@ pub(crate) fn write_note<E: Write>(err: &mut E, note: &[u8]) {
     let _ = err.flush();
 }
 
-/// Returns the messages about the faults `errors`, as text or as JSON, with the warnings of `known`
-/// before them.
+/// Returns the messages about the warnings of `known`, followed by the messages about the faults
+/// `errors`. The messages are text or JSON.
 fn refusal_text(
     part: Part<'_, '_>,
     showing: Showing,

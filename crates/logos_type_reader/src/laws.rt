@@ -1,10 +1,11 @@
-//! Laws of reading types. No code calls these functions: the contract of each is a proved law.
+//! States laws of reading types. No code calls the functions of this module: the contract of each
+//! function is a proved law.
 
 ghost use Rattle.std.specs.Prelude.{◌≡◌, ◌<◌, ◌≤◌, ◌⊎◌, ℕ, Bool, true};
 ghost use Rattle.logos_type_reader.specs.Views.{TokenList, IsRestOf, count_of, Tree, depth, Fault, too_deep, IsType, NoType, Ending, Written, may_follow, FaultStage, IsAt, SameSign, IsTypeExpr, NoTypeExpr};
 
 /// A run begins with at most one type, and has one rest after that type. A run has at most one
-/// fault, and none if it begins with a type.
+/// fault, and has no fault if the run begins with a type.
 pub fn one_outcome()
     ensures one_type { (run rest other : TokenList) (tree different : Tree) →
         IsTypeExpr run tree rest → IsTypeExpr run different other → (tree ≡ different)

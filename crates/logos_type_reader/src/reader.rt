@@ -63,8 +63,8 @@ fn add_leaf<'s>(leaf: TypeToken<'s>, parts: &mut Vec<TypePart<'s>>) -> Result<()
     Ok(())
 }
 
-/// Adds the tokens of `run` to `parts` without reading types in the run. For a group, adds its
-/// delimiters and the tokens between the delimiters.
+/// Adds the tokens of `run` to `parts` without reading types in the run. For a group, adds the
+/// delimiters of the group and the tokens between the delimiters.
 #[cycle(keeping)]
 fn keep_tokens<'s>(run: Tokens<'_, 's>, parts: &mut Vec<TypePart<'s>>) -> Result<(), AllocError>
     ensures { OnOk result (map tree_of parts.new.items ≡
@@ -78,8 +78,8 @@ fn keep_tokens<'s>(run: Tokens<'_, 's>, parts: &mut Vec<TypePart<'s>>) -> Result
     Ok(())
 }
 
-/// Adds the token `tree` to `parts` without reading types. For a group, adds its delimiters and the
-/// tokens between the delimiters.
+/// Adds the token `tree` to `parts` without reading types. If `tree` is a group, adds the
+/// delimiters of the group and the tokens between the delimiters.
 #[cycle(keeping)]
 fn keep_token<'s>(tree: TokenTree<'_, 's>, parts: &mut Vec<TypePart<'s>>) -> Result<(), AllocError>
     ensures { OnOk result (map tree_of parts.new.items ≡
@@ -343,8 +343,8 @@ fn span_before<'t, 's>(tokens: Tokens<'t, 's>, rest: Tokens<'t, 's>) -> Span
     front.span()
 }
 
-/// Reads the type at the start of `tokens`, where the type is more than a name. Returns the type
-/// and the tokens after it. `levels` and `plus` have the same meaning as in `type_at`.
+/// Reads the type at the start of `tokens`, which must be more than a name. Returns the type and
+/// the tokens after the type. `levels` and `plus` have the same meaning as in `type_at`.
 #[cycle(types)]
 fn formed_at<'t, 's>(
     alloc: Global,
@@ -378,7 +378,7 @@ fn formed_at<'t, 's>(
     Ok((TypePart::Whole(parts), rest))
 }
 
-/// Reads the type at the start of `tokens`. Returns the type and the tokens after it. At most
+/// Reads the type at the start of `tokens`. Returns the type and the tokens after the type. At most
 /// `levels` types can be nested, including the outermost type. `+` joins bounds only if `plus` is
 /// `true`.
 #[cycle(types)]
@@ -401,7 +401,7 @@ pub(crate) fn type_at<'t, 's>(
     Ok((TypePart::Name(name), rest))
 }
 
-/// Reads the type at the start of `tokens`. Returns the type and the tokens after it.
+/// Reads the type at the start of `tokens`. Returns the type and the tokens after the type.
 ///
 /// # Errors
 ///

@@ -212,7 +212,7 @@ fn span_of(mistake: Mistake<'_>) -> Span
     }
 }
 
-/// Returns the help for a mistake, or `None` if there is none.
+/// Returns the help for a mistake, or `None` if the mistake has no help.
 fn help_for(mistake: Mistake<'_>) -> Option<&'static str> {
     match mistake {
         Mistake::Misspelled { .. } => None,

@@ -72,8 +72,8 @@ fn begins_before(found: &[Span], offset: usize) -> bool {
     }
 }
 
-/// Searches a run and its groups for `derive` lists that contain the derive macro, and appends the
-/// spans of these lists to `found`.
+/// Searches a run, including its groups, for `derive` lists that contain the derive macro. Appends
+/// the spans of these lists to `found`.
 #[cycle(search)]
 fn search_run(run: Tokens<'_, '_>, found: &mut Vec<Span>) -> Result<(), AllocError> {
     let mut rest = run;

@@ -100,8 +100,8 @@ fn close<'t, 's>(delimiter: Delimiter, stage: Stage, outside: Outside<'t, 's>) -
     TypeStep::Take(TypeToken::Close(delimiter), after)
 }
 
-/// Returns the step that takes all tokens of the run without reading types in them, and continues
-/// at `stage` without tokens.
+/// Returns the step that takes all tokens of the run without reading types in these tokens, and
+/// continues at `stage` at the end of the run.
 fn keep<'t, 's>(stage: Stage, run: Tokens<'t, 's>, outside: Outside<'t, 's>) -> TypeStep<'t, 's>
     ensures { IsStep (Ok result)
         (keeps (tokens_of run.entry) (to stage none (outside_of outside.entry))) }

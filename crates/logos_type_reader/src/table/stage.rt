@@ -7,7 +7,7 @@ use logos_type::TypeToken;
 /// The kind of a path: it distinguishes the paths of types, of macros and of traits.
 #[derive(Clone, Copy)]
 pub(crate) enum PathKind {
-    /// A type without arguments so far. Its path can still be the name of a macro.
+    /// A type whose path has no arguments so far, and can still be the name of a macro.
     Plain,
     /// A type, or the trait after `as`.
     OfType,
@@ -140,8 +140,8 @@ pub(crate) enum Stage {
 /// The tokens after the open group, if a group is open.
 pub(crate) type Outside<'t, 's> = Option<Tokens<'t, 's>>;
 
-/// A spot inside a type: its stage, the tokens after the spot, and, if the spot is inside a group,
-/// the tokens after the group.
+/// A spot inside a type: its stage and the tokens after the spot. If the spot is inside a group,
+/// also the tokens after the group.
 #[derive(Clone, Copy)]
 pub(crate) struct Spot<'t, 's> {
     pub stage: Stage,
