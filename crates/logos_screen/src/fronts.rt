@@ -17,8 +17,8 @@ pub(crate) struct ShownLine<'l> {
     pub(crate) mark: &'static str,
 }
 
-/// Appends a text to `block`. The text is unchanged if `width` is `None`. Otherwise, each line of the
-/// text is cut to `width` columns and ends with LF.
+/// Appends a text to `block`. The text is unchanged if `width` is `None`. Otherwise, each line of
+/// the text is cut to `width` columns and ends with LF.
 ///
 /// # Errors
 ///

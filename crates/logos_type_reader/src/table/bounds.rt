@@ -33,8 +33,8 @@ fn bound_lifetime_step(plus: bool, at: &Spot<'_, '_>) -> Next
     }
 }
 
-/// Returns the table entry for a spot where the path of a bound is expected, with an optional
-/// `for<..>` before it. Returns a mismatch if neither a path nor `for<..>` follows.
+/// Returns the table entry for a spot where an optional `for<..>` and the path of a bound are
+/// expected. Returns a mismatch if neither a path nor `for<..>` follows.
 pub(super) fn trait_step(kind: BoundKind, at: &Spot<'_, '_>) -> Next
     ensures { IsAction result (spot_of at.now)
         (trait_move kind (tokens_of at.now.run) (outside_of at.now.outside)) }

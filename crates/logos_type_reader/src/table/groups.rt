@@ -7,7 +7,7 @@ use crate::table::stage::{FrontToken, Next, PathKind, Prefix, Spot, Stage, Table
 use crate::table::tokens::{begins_colons, begins_word, look, mismatch};
 use logos_token::token::Delimiter;
 
-/// Returns the table entry for a spot after the `&` of a reference and its optional lifetime.
+/// Returns the table entry for a spot after the `&` and the optional lifetime of a reference.
 pub(super) fn referent_step(at: &Spot<'_, '_>) -> Next
     ensures { IsAction result (spot_of at.now)
         (referent_move (tokens_of at.now.run) (outside_of at.now.outside)) }

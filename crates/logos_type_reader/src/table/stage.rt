@@ -4,7 +4,7 @@
 use logos_token::token::{Delimiter, Spacing, Span, Tokens};
 use logos_type::TypeToken;
 
-/// The kind of a path: it distinguishes the paths of types, of macros and of traits.
+/// The kind of a path: the construct that the path names.
 #[derive(Clone, Copy)]
 pub(crate) enum PathKind {
     /// A type whose path has no arguments so far, and can still be the name of a macro.
@@ -73,7 +73,7 @@ pub(crate) enum Stage {
     SelfTraitEnd,
     /// After the `>` that ends `<T as P>`.
     SelfClosed,
-    /// After `&` and its optional lifetime.
+    /// After the `&` and the optional lifetime of a reference.
     Referent,
     /// After the `*` of a pointer.
     Pointer,
@@ -96,7 +96,7 @@ pub(crate) enum Stage {
     /// After the `(` of a bound. After the matching `)`, `+` can join another bound if the flag is
     /// `true`.
     Question(bool),
-    /// Where the path of a bound is expected, with an optional `for<..>` before it.
+    /// Where an optional `for<..>` and the path of a bound are expected.
     Trait(BoundKind),
     /// After the `for<..>` of a bound.
     TraitPath(BoundKind),
