@@ -176,7 +176,7 @@ impl RangeSet {
         Ok(RangeSet { ranges })
     }
 
-    /// Returns the members up to U+00FF.
+    /// Returns the members that are at most U+00FF.
     ///
     /// # Errors
     ///
@@ -213,7 +213,7 @@ impl RangeSet {
         ranges
     }
 
-    /// Returns the members of this set and of `other`.
+    /// Returns the characters that are in this set or in `other`.
     ///
     /// # Errors
     ///

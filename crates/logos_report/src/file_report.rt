@@ -1,5 +1,6 @@
-//! Appends the faults of all parts of a file to a report, in order. The limit on shown faults
-//! applies to all parts together. Used by `logos_derive`, `logos_expand` and `logos_messages`.
+//! Appends the faults of all parts of a file to a report, in the order of the parts. The limit on
+//! shown faults applies to all parts together. Used by `logos_derive`, `logos_expand` and
+//! `logos_messages`.
 
 ghost use Rattle.std.specs.Prelude.{◌≡◌, ◌++◌, ◌+◌, ◌<◌, ◌^◌, ◌-◌, length, min};
 ghost use Rattle.logos_page.specs.Pages.{PageValue};
@@ -34,8 +35,8 @@ pub struct FaultListing<'f> {
     pub later: &'f [Refused],
 }
 
-/// Appends the faults of the parts `refused` of a file, in order, as `push_faults` does for one
-/// part. Shows at most 50 faults with one code in all parts together.
+/// Appends the faults of the parts `refused` of a file, in the order of the list, as `push_faults`
+/// does for one part. Shows at most 50 faults with one code in all parts together.
 pub fn push_refused(page: &mut Page, source: &Source<'_>, refused: &[Refused])
     ensures { Shows (refused_texts page.old.is_colored source.now refused.now) page.old page.new }
 {

@@ -1,6 +1,6 @@
-//! Appends faults with the clues about them. Each set of ambiguous leaves with a clue has one
-//! report. A pattern that can examine bytes before the start of a match is shown under the fault
-//! that it explains. Used by `faults`.
+//! Appends faults to a report, with the clues about the faults. Each set of ambiguous leaves with a
+//! clue has one report. A pattern that can examine bytes before the start of a match is shown under
+//! the fault that it explains. Used by `faults`.
 
 ghost use Rattle.std.specs.Prelude.{◌∷◌, ◌++◌, [], map, nat_lt, if◌then◌else◌};
 ghost use Rattle.logos_report.specs.Views.{fault_of, from_of, fault_texts, listed_texts, Shows, location_line, next_value, offsets_of, starts_in};

@@ -94,8 +94,8 @@ impl<'s> Parser<'s> {
         Ok(())
     }
 
-    /// Sets the path of the exported state diagram to `path`, the value of `tokens`, and reports a
-    /// second path.
+    /// Sets the path of the exported state diagram to `path`, and reports a second path. `tokens`
+    /// are the tokens that spell `path`.
     fn set_path(&mut self, tokens: Tokens<'_, 's>, path: String) -> Result<(), Memory>
         ensures { OnOk result (IsReport
             (path_set (tokens_of tokens.entry) (string_bytes path) (parser_view self.old))
@@ -173,7 +173,8 @@ impl<'s> Parser<'s> {
         Ok(())
     }
 
-    /// Sets the error type to `error`, the value of `tokens`, and reports a second error type.
+    /// Sets the error type to `error`, and reports a second error type. `tokens` are the tokens
+    /// that spell `error`.
     fn set_error(&mut self, tokens: Tokens<'_, 's>, error: ErrorType<'s>) -> Result<(), Memory>
         ensures { OnOk result (IsReport
             (error_set (tokens_of tokens.entry) (error_view error.entry) (parser_view self.old))
@@ -367,8 +368,8 @@ impl<'s> Parser<'s> {
         Ok(true)
     }
 
-    /// Adds arguments to the options in order, and reports their faults. Stops after an `error(..)`
-    /// that does not begin with a type.
+    /// Adds arguments to the options in source order, and reports their faults. Stops after an
+    /// `error(..)` that does not begin with a type.
     pub(super) fn add_pieces(&mut self, pieces: AttributeParser<'_, 's>) -> Result<(), Memory>
         ensures { OnOk result (ReadsPieces
             (parser_view self.old) (parser_view self.new) self.old.errors self.new.errors

@@ -90,10 +90,11 @@ impl<'s> Parser<'s> {
 
     /// Returns the type `written` with each declared parameter replaced by the type assigned to it,
     /// and with each lifetime replaced by `'s`. A parameter is not replaced if the type assigned to
-    /// it contains the parameter itself. Each call searches for these parameters anew.
+    /// it contains the parameter itself. Each call searches anew for the parameters that are not
+    /// replaced.
     ///
-    /// If too many types are nested in the result, reports the nesting at `span` and returns the
-    /// type as written.
+    /// If the result has more than 128 levels of nested types, reports the nesting at `span` and
+    /// returns the type as written.
     ///
     /// # Errors
     ///
