@@ -16,7 +16,7 @@ use logos_token::token::Span;
 /// The number of colors. Leaf `n` has the color `n % COLORS`.
 const COLORS: usize = 8;
 
-/// An input whose front is shown on a page, and the leaves of the lexer of the page.
+/// An input whose front is shown on a page, and the leaves of the page's lexer.
 #[derive(Clone, Copy)]
 pub(crate) struct ShownInput<'a, 's> {
     pub(crate) leaves: &'a [Leaf<'s>],
