@@ -1,5 +1,5 @@
-//! Steps on several trees with consecutively numbered positions. `logos_automaton` calls `step_all`
-//! and `exits_all` for the key of each state.
+//! Makes steps on several trees with consecutively numbered positions. `logos_automaton` calls
+//! `step_all` and `exits_all` for the key of each state.
 
 ghost use Rattle.std.specs.Prelude.{◌≡◌, ◌∷◌, ◌++◌, ◌^◌, ◌<◌, ◌≤◌, ◌+◌, ◌-◌, ℕ, [], IsTrue, IsFalse, IfOk, OnOk, length, map, slice_index, if◌then◌else◌};
 ghost use Rattle.logos_positions.specs.Views.{IsRising, Has, HasBetween, width_of, test_at, core_of, AreMeasured, ReadBy, LeftBy, AreStarts};

@@ -41,8 +41,8 @@ fn near_range(ranges: &[Range], range: Range) -> usize
     i
 }
 
-/// Adds `range` to a class: extends the first of `ranges` that overlaps `range` or is adjacent to
-/// it. Appends `range` if there is no such range.
+/// Adds `range` to the class with `ranges`: extends the first range that overlaps `range` or is
+/// adjacent to it. Appends `range` if there is no such range.
 ///
 /// # Errors
 ///
@@ -86,8 +86,8 @@ fn ranges_of(node: &Node) -> Option<&[Range]>
     }
 }
 
-/// Returns the ranges of the union of `first` and `second`, or `None` if one of them is not a class
-/// of bytes.
+/// Returns the ranges of the union of `first` and `second`, or `None` if one of the two trees is
+/// not a class of bytes.
 ///
 /// # Errors
 ///
