@@ -44,8 +44,8 @@ pub(crate) fn yield_inputs<'w, O: Write, E: Write>(
     Ok(Agreement::Same)
 }
 
-/// Writes the first `most` inputs that `yield_inputs` finds for the requested lexer of a file.
-/// Returns the note about these inputs.
+/// Writes the first `most` of the inputs that together take all edges of the graph of a file's
+/// requested lexer. Returns the note about these inputs.
 fn inputs_by_file<'w, O: Write, E: Write>(
     task: Task<'w>,
     source: &Source<'_>,
@@ -66,8 +66,8 @@ fn inputs_by_file<'w, O: Write, E: Write>(
     }
 }
 
-/// Writes the first `most` inputs that together take all edges of `graph`: as JSON if `is_json` is
-/// `true`, and as text otherwise. Returns the note about these inputs.
+/// Writes the first `most` of the inputs that together take all edges of `graph`: as JSON if
+/// `is_json` is `true`, and as text otherwise. Returns the note about these inputs.
 fn inputs_by_graph<O: Write>(
     alloc: Global,
     graph: &Graph<'_>,

@@ -163,8 +163,8 @@ fn push_named(
     Ok(())
 }
 
-/// Appends the output for an enum to `pages`. The output is the lexer of the enum if `derives` is
-/// `true`, and the warnings about the text of the enum otherwise.
+/// Appends the output for an enum to `pages`. If `derives` is `true`, the output shows the lexer of
+/// the enum. Otherwise, the output consists of the warnings about the text of the enum.
 fn push_enum(
     alloc: Global,
     pages: &mut Pages,

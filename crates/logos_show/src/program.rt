@@ -98,7 +98,7 @@ pub(crate) fn run_with<
 /// - 0 if the request is fulfilled.
 /// - 1 if the request is refused or a comparison finds a difference.
 /// - 2 if the arguments are invalid.
-/// - 3 if a file or an output fails, or memory runs out.
+/// - 3 for any other failure.
 pub(crate) fn run<
     F: ComparableFiles,
     C: Clock + StandardInput + Env,

@@ -169,7 +169,7 @@ fn message_of(alloc: Global, name: &str, mistake: Mistake<'_>) -> Result<String,
     }
 }
 
-/// Returns the message that `name` is probably a misspelling of `intended`.
+/// Returns the message that `name` looks like a misspelling of `intended`.
 fn misspelled_text(alloc: Global, name: &str, intended: &str) -> Result<String, AllocError>
     ensures { IfOk result (λ message. string_bytes message ≡ codes "`" ++ (name.now
         ++ (codes "` looks like a misspelling of `" ++ (intended.now ++ codes "`")))) }
@@ -178,7 +178,7 @@ fn misspelled_text(alloc: Global, name: &str, intended: &str) -> Result<String, 
     Ok(message)
 }
 
-/// Returns the message that the enum `name` has no patterns.
+/// Returns the message that no variant of the enum `name` has a pattern.
 fn no_pattern_text(alloc: Global, name: &str) -> Result<String, AllocError>
     ensures { IfOk result (λ message. string_bytes message
         ≡ codes "no variant of `" ++ (name.now ++ codes "` has a pattern")) }
