@@ -1,5 +1,5 @@
-//! Computes the uses of the leaves' matches. A lexer reads a use with one load at the end of a
-//! match. Called by `construction`.
+//! `uses_of` computes the use of the matches of each leaf. A lexer reads a use with one load at the
+//! end of a match. Called by `construction`.
 
 ghost use Rattle.std.specs.Prelude.{◌≡◌, IfOk, map};
 ghost use Rattle.logos_code.specs.Views.{use_of, use_by};
