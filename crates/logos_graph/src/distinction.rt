@@ -45,7 +45,7 @@ fn mark_after(table: &Table, s: usize, bytes: &[u8], at_end: bool) -> Option<Sta
     mark_with_end(table, t, at_end)
 }
 
-/// Returns whether two marks differ, or exactly one of them exists.
+/// Returns whether two marks differ, or whether exactly one of the marks exists.
 fn differ(one: Option<StateMarks>, other: Option<StateMarks>) -> bool
     ensures { IsTrue result ↔ (one ≢ other) }
 {
@@ -74,8 +74,7 @@ fn ordered(a: usize, b: usize) -> (usize, usize)
     if a < b { (a, b) } else { (b, a) }
 }
 
-/// Returns the number of the block that was made by the split that separated the states `s` and
-/// `t`.
+/// Returns the number of the block that was new when the states `s` and `t` were separated.
 fn parted_at(reduced: &Reduction, s: usize, t: usize) -> usize
     requires evidence { YieldsEvidence reduced.now }
     requires s_in { s < size reduced.now.table }
@@ -106,7 +105,7 @@ pub fn checks(reduced: &Reduction, s: usize, t: usize, bytes: &[u8], at_end: boo
 }
 
 /// Finds bytes that distinguish the states `s` and `t`, which must be different. Returns the bytes,
-/// and `true` if the end of the input follows the bytes. There are fewer bytes than states.
+/// and whether the end of the input follows the bytes. There are fewer bytes than states.
 ///
 /// # Errors
 ///

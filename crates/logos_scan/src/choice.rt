@@ -9,8 +9,8 @@ use crate::trial::trial_counts;
 use logos_code::code::Code;
 use std::alloc::{AllocError, Global};
 
-/// The time that a scan saves for each byte, on an average text on which it is faster. All times
-/// are in hundredths of a nanosecond.
+/// The time that a scan saves for each byte of an average text, among the texts on which a scan
+/// takes less time than a lexer. All times are in hundredths of a nanosecond.
 const SAVED: usize = 100;
 
 /// The time for folding the row of a state into newly allocated memory.
@@ -47,8 +47,8 @@ pub fn rows_for<'c, 's>(
     }
 }
 
-/// Returns whether the input is too short for a scan to save the time for the folded rows of the
-/// code and for a sample.
+/// Returns whether the input is too short for a scan: whether a scan saves less time than is needed
+/// to fold the rows of the code and to walk over one sample.
 fn is_short(code: &Code, input: &[u8]) -> bool {
     let states = code.parts().states.len();
     SAVED.wrapping_mul(input.len()) < FOLD.wrapping_mul(states).wrapping_add(TRIAL)

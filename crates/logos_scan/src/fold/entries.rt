@@ -100,7 +100,7 @@ fn row_start_of_target(code: &Code, state: usize, byte: u8) -> Option<usize>
     }
 }
 
-/// Returns the flags of an entry before whose byte a match of this use ends.
+/// Returns the flags of an entry before whose byte a match with the use `used` ends.
 fn flags(used: MatchUse) -> u32
     ensures { result ≡ flags_of used }
 {
@@ -111,8 +111,8 @@ fn flags(used: MatchUse) -> u32
     }
 }
 
-/// Returns the entry of a byte before which a match of this leaf and use ends. `row_start` is the
-/// row offset of the next attempt's state after the byte.
+/// Returns the entry of a byte before which a match of `leaf` with the use `used` ends. `row_start`
+/// is the row offset of the next attempt's state after the byte.
 fn ended(leaf: LeafId, used: MatchUse, row_start: usize) -> u32
     requires leaf { leaf.0 < LEAVES_NAMED }
     requires row_start { row_start < ENTRIES }
