@@ -35,9 +35,9 @@ pub struct Definition<'s> {
     pub ignore_flags: IgnoreFlags,
 }
 
-/// Sets `priority` to the number that `tokens` spell, and reports a second priority. If `tokens`
-/// are not a number, reports them and leaves the priority unchanged. The priority is also unchanged
-/// if memory runs out.
+/// Sets `priority` to the number that `tokens` spell. If a priority was set before, also reports
+/// `tokens`. If `tokens` are not a number, reports them and leaves the priority unchanged. The
+/// priority is also unchanged if memory runs out.
 fn set_priority(
     priority: &mut Option<usize>,
     tokens: Tokens<'_, '_>,
@@ -59,9 +59,9 @@ fn set_priority(
     Ok(())
 }
 
-/// Sets `allow`, the value of `allow_greedy`, to the boolean that `tokens` spell, and reports a
-/// second value. If `tokens` are not a boolean, reports them and leaves the value unchanged. The
-/// value is also unchanged if memory runs out.
+/// Sets `allow`, the value of `allow_greedy`, to the boolean that `tokens` spell. If a value was
+/// set before, also reports `tokens`. If `tokens` are not a boolean, reports them and leaves the
+/// value unchanged. The value is also unchanged if memory runs out.
 fn set_greedy(
     allow: &mut Option<bool>,
     tokens: Tokens<'_, '_>,

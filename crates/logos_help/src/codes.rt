@@ -76,7 +76,8 @@ fn help_for_escapes(sight: Sight<'_>) -> &'static str {
     }
 }
 
-/// Returns the help for a fault with the code `code`, regardless of the text at its span.
+/// Returns the help for a fault with the code `code`, regardless of the text at the span of the
+/// fault.
 fn help_for_code(code: FaultCode) -> &'static str {
     match code {
         FaultCode::NotAnEnum => "derive `Logos` only for an enum",

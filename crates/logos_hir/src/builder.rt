@@ -1,5 +1,4 @@
-//! Builds trees and simplifies them at the same time. Called by the simplifier and `logos_syntax`
-//! for each node.
+//! Builds trees in their simplest form. Called by the simplifier and `logos_syntax` for each node.
 
 ghost use Rattle.std.specs.Prelude.{◌≡◌, false, map, ◌++◌, Option, Some, IfOk, OnOk};
 ghost use Rattle.logos_hir.specs.Views.{look, capture, tree_of, set_of, literal_of, one_char_of, one_byte_of, is_byteless, is_most, cut, times, repetition_of, parts_of, in_a_row, part_text, add_text, add_part, add_parts, is_literal_tree, are_apart};
@@ -110,7 +109,7 @@ fn cut(max: Option<u32>) -> u32
     }
 }
 
-/// Returns a repetition of `body`, or `body` itself if it is repeated exactly once.
+/// Returns a repetition of `body`, or `body` itself if `body` is repeated exactly once.
 fn times(
     alloc: Global,
     min: u32,

@@ -1,5 +1,5 @@
 //! Computes measures of trees, such as the default priority of a leaf, without allocating memory.
-//! Called by `logos_pattern` after it has read a pattern.
+//! Called by `logos_pattern` for each pattern that has been read.
 
 ghost use Rattle.std.specs.Prelude.{◌≡◌, ℕ, ◌+◌, ◌*◌, min, nat_lt, length, map};
 ghost use Rattle.logos_hir.specs.Views.{list_all, chars, is_utf8, pointwise, trees, pairs, tree_of, class_tree, value, sum_of_values, least_value, text_size, fitted, is_same, is_text, all_text, is_all, is_dot, has_greedy_dot, some_greedy_dot};

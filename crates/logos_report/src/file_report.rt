@@ -12,8 +12,8 @@ use crate::source::{Part, Source};
 use logos_page::Page;
 use logos_token::error::{Errors, FaultCode, SpannedError};
 
-/// The faults of a part of a file, with the clues about them. The part is an enum, or the whole
-/// file if the file cannot be read.
+/// The faults of a part of a file, with the clues about these faults. The part is an enum, or the
+/// whole file if the file cannot be read.
 #[derive(Drop)]
 pub struct Refused {
     /// The byte offset of the part in the file.
@@ -24,7 +24,7 @@ pub struct Refused {
     pub clues: Clues,
 }
 
-/// The faults of a part of a file, with the parts before and after it.
+/// The faults of a part of a file, with the parts before and after this part.
 #[derive(Clone, Copy)]
 pub struct FaultListing<'f> {
     /// The parts of the file before this part.
@@ -87,7 +87,7 @@ pub fn seen_in(earlier: &[Refused], front: &[SpannedError], code: FaultCode) -> 
 }
 
 /// Returns the number of faults with the code `code` in a part and in the parts before and after
-/// it, but at most `usize::MAX`.
+/// this part, but at most `usize::MAX`.
 pub fn count_in(listing: FaultListing<'_>, code: FaultCode) -> usize
     ensures { result ≡ min (count_by (has_name (name_of code)) (listed_faults listing.entry))
         (2 ^ 64 - 1) }

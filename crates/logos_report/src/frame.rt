@@ -10,7 +10,7 @@ use logos_lines::Location;
 use logos_page::{Page, Style, digits};
 use logos_token::token::Span;
 
-/// A span of a file, and the style and the label with which it is shown.
+/// A span of a file, and the style and the label with which the span is shown.
 #[derive(Clone, Copy)]
 struct Frame<'p, 't> {
     source: &'p Source<'t>,

@@ -87,7 +87,7 @@ enum LiteralState {
     Blanks,
 }
 
-/// The state of a reader of a literal, before one of the literal's characters.
+/// The state of a reader of a literal, before a character of the literal.
 #[derive(Clone, Copy)]
 struct Reader {
     is_raw: bool,

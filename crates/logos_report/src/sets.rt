@@ -16,8 +16,9 @@ use logos_token::error::SpannedError;
 /// The maximum number of patterns that are shown under a fault.
 const MOST: usize = 50;
 
-/// Appends `known`, the next fault, with the clues about it: as a member of its set of ambiguous
-/// leaves, or with the patterns that explain it. `next` contains the clues from this fault on.
+/// Appends `known`, the next fault, with the clues about the fault. A fault in a set of ambiguous
+/// leaves with a clue is appended as a member of the set, and any other fault is appended with the
+/// patterns that explain the fault. `next` contains the clues from this fault on.
 pub(crate) fn push_listed(
     page: &mut Page,
     part: Part<'_, '_>,

@@ -20,11 +20,11 @@ pub struct Warning {
     pub message: String,
     /// The span of the mistake, in bytes of the part.
     pub span: Span,
-    /// A further explanation on one line, if there is one.
+    /// A further explanation on one line, if there is such an explanation.
     pub note: Option<String>,
     /// The help, if there is one.
     pub help: Option<&'static str>,
-    /// A second span of the mistake, in bytes of the part, if there is one.
+    /// A second span of the mistake, in bytes of the part, if there is such a span.
     pub also: Option<Span>,
 }
 

@@ -90,7 +90,7 @@ fn captures(opening: GroupOpening<'_>) -> bool
     }
 }
 
-/// Returns whether the operator is greedy with these flags.
+/// Returns whether the operator is greedy under the flags `flags`.
 fn is_greedy(flags: Flags, op: Operator) -> bool
     ensures { result ≡ is_greedy flags op }
 {

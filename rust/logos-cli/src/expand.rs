@@ -87,8 +87,8 @@ impl Build {
         Ok(output)
     }
 
-    /// Runs `logos_cli` on the file at `source` and writes the result to `output`. Returns the
-    /// warnings, or the faults as an error.
+    /// Runs `logos_cli` on the file at `source`, and writes the result to `output`. Returns the
+    /// messages of `logos_cli`, as an error if the exit status is not 0.
     fn run(&self, source: &str, output: &str) -> Result<String, String> {
         let words = [
             source,

@@ -59,7 +59,7 @@ impl<'s> Parser<'s> {
 
     /// Returns the generic arguments that follow the enum's name: `'s` if a lifetime is declared,
     /// and then the types assigned to the declared parameters, in the order of declaration. Returns
-    /// `None` if there are no arguments. Reports each parameter without a type, and leaves it out.
+    /// `None` if there are no arguments. Reports and leaves out each parameter without a type.
     ///
     /// # Errors
     ///

@@ -1,5 +1,5 @@
-//! Combines the operands of a bracket, each with the operator before it. The reader of brackets
-//! adds each operand to an `OperandRuns`.
+//! Combines the operands of a bracket according to the operators between the operands. The reader
+//! of brackets adds each operand to an `OperandRuns`.
 
 ghost use Rattle.std.specs.Prelude.{◌≡◌, false, IfOk, OnOk};
 ghost use Rattle.logos_hir.specs.Views.{Set, set_of, combination, selection, effects_on, with_operand, Makes, made_by};

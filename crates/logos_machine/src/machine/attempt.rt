@@ -38,11 +38,11 @@ pub(super) enum Turn {
     Returns,
 }
 
-/// The result of an attempt.
+/// The result of an attempt: a match or an error.
 #[derive(Clone, Copy)]
 pub(super) enum Found {
     Ended,
-    /// A match of this leaf, up to this offset.
+    /// A match of this leaf that ends at this offset.
     Matched(LeafId, usize),
     /// No match. The error ends at this offset.
     Failed(usize),

@@ -1,5 +1,5 @@
 //! Lexes a part of an input without knowledge of the bytes after the part. `logos_stream` calls
-//! `next_within` for each item, and `logos_relex` calls it for the items of a chunk.
+//! `next_within` for each item, and `logos_relex` calls `next_within` for each item of a chunk.
 
 ghost use Rattle.std.specs.Prelude.{◌≡◌, ◌<◌, ◌≤◌, ◌+◌, drop, length, false, List, ℕ, MatchBool};
 ghost use Rattle.logos_machine.specs.Views.{IsStatus, answers_of, fork_of, looped, status_of, state_at, DoesWithin, HasBranches, IsClosed, IsOpen, IsSettled, KeepsGiven, Moves, NoBranches, TakesMatches};
@@ -98,7 +98,7 @@ enum Move {
 /// number of states that the attempt entered.
 #[derive(Clone, Copy)]
 enum Settled {
-    /// A match of this leaf, up to this offset.
+    /// A match of this leaf that ends at this offset.
     Matched(LeafId, usize, usize),
     /// No match. The error ends at this offset.
     Failed(usize, usize),

@@ -176,9 +176,10 @@ fn walk(code: &Code, input: &[u8], start: usize, first: u32) -> (u32, usize, usi
     (code.last_entry(row_start), at, before, row_start)
 }
 
-/// Returns the entry after a fast loop, and the offset of the byte of this entry. `entry` is the
-/// entry of the byte at the offset `at`, and leads back to the state. At the end of the input, the
-/// returned entry is the state's entry for the end.
+/// Returns the entry after the fast loop of the state with the row offset `row_start`, and the
+/// offset of the byte of this entry. `entry` must be the entry of the byte at the offset `at`, and
+/// must lead back to the state. At the end of the input, the returned entry is the state's entry
+/// for the end.
 #[inline(always)]
 fn look_far(code: &Code, input: &[u8], row_start: usize, at: usize, entry: u32) -> (u32, usize)
     requires sound { IsSound code.now }

@@ -14,7 +14,7 @@ use logos_pattern_tokens::token::Flags;
 use std::alloc::{AllocError, Global};
 use std::mem;
 
-/// The greatest number of groups, brackets and repetitions around one point.
+/// The maximum number of groups, brackets and repetitions around one point.
 pub(crate) const MAX_NESTING: usize = 250;
 
 /// The opening of a bracket. `left` is the number of characters from the bracket's `[` to the end
