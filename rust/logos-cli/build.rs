@@ -17,8 +17,8 @@ pub fn run_logos_program(rt: &HostRuntime, arguments: Result<Vec<String>, Failur
 }
 ";
 
-/// A re-export of the function `run`, which is added to the modules of `logos_cli` and
-/// `logos_show`. Without the re-export, the function is private in these modules.
+/// A re-export that is added to the modules of `logos_cli` and `logos_show`, because the function
+/// `run` is private in these modules.
 const RUN_COMMAND: &str = "pub(crate) use self::program::run as run_command;\n";
 
 fn erase() -> io::Result<()> {
