@@ -44,8 +44,8 @@ pub(crate) struct ExpandOrder<'w> {
 pub(crate) struct Batch<'w> {
     /// The arguments of the command line, which contain the paths of the files.
     pub(crate) arguments: &'w [String],
-    /// The order for the first file. The orders for the other files differ from it only in their
-    /// paths.
+    /// The order for the first file. The orders for the other files differ from this order only in
+    /// their paths.
     pub(crate) order: ExpandOrder<'w>,
     /// The path of the folder, which ends in `/`.
     pub(crate) folder: &'w str,

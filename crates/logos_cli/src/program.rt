@@ -51,7 +51,7 @@ pub(crate) struct Ending {
 }
 
 /// Runs the program with its arguments, and returns the exit status of `run`. If the arguments
-/// cannot be read, writes a message and returns the exit status of this failure.
+/// cannot be read, writes the message of this failure and returns the exit status of the failure.
 pub(crate) fn run_with<F: ComparableFiles, O: Write, E: Write + IsTerminal>(
     alloc: Global,
     arguments: Result<Vec<String>, Failure<'static>>,
@@ -90,7 +90,9 @@ pub(crate) fn run_with<F: ComparableFiles, O: Write, E: Write + IsTerminal>(
     }
 }
 
-/// Runs the program. Messages are written to standard error. The exit status is:
+/// Runs the program. Messages are written to standard error.
+///
+/// The exit status is:
 ///
 /// - 0 if the request is fulfilled.
 /// - 1 if the request is refused.

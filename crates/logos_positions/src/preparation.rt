@@ -125,8 +125,8 @@ fn sole(in_order: bool, mut nodes: Vec<Node>) -> Node
     node
 }
 
-/// Combines trees in pairs, with about half of the trees on each side. Returns the concatenation of
-/// all trees if `in_order` is `true`, and their alternation otherwise.
+/// Combines trees: joins each half of the trees, and then combines the two results. Returns the
+/// concatenation of all trees if `in_order` is `true`, and their alternation otherwise.
 ///
 /// # Errors
 ///

@@ -36,7 +36,7 @@ fn ends_with(list: &Vec<usize>, s: usize) -> bool
     }
 }
 
-/// Appends the number `s` to `list` unless `s` is already its last number.
+/// Appends the number `s` to `list` unless `s` is already the last number of `list`.
 ///
 /// # Errors
 ///

@@ -203,7 +203,7 @@ fn numbered_marks(
     Ok(marks)
 }
 
-/// A table whose states are the blocks of another table, with the block that each state represents.
+/// A table whose states represent the blocks of another table, with the block of each state.
 #[derive(Drop)]
 pub struct Numbering {
     pub table: Table,

@@ -26,9 +26,9 @@ pub struct Reduction {
 /// Returns the smallest table that records the same matches as `table` after the same bytes, from
 /// the state `root` on.
 ///
-/// Early marks are set, and the late marks that they make redundant are removed. Edges to states
-/// that have no mark and lead to no state with a mark are removed. Equivalent states are merged.
-/// The states that can be reached from the root are numbered by first visit.
+/// Early marks are set, and the late marks that the early marks make redundant are removed. Edges
+/// to states that have no mark and lead to no state with a mark are removed. Equivalent states are
+/// merged. The states that can be reached from the root are numbered by first visit.
 ///
 /// Suppose that each state of `table` can be reached, that the root has no mark, that all marks are
 /// late, and that no state after the end of the input leads to a mark. Then each state of the

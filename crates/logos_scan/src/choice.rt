@@ -20,8 +20,8 @@ const FOLD: usize = 200_000;
 const TRIAL: usize = 2_000_000;
 
 /// Returns the folded rows of a code if a scan by chunks likely takes less time on the input than a
-/// lexer. Returns `None` if this is unlikely, or if the code has too many states for folded rows.
-/// Any result is correct, since a scan and a lexer find the same items.
+/// lexer. Returns `None` otherwise, or if the code has too many states for folded rows. Any result
+/// is correct, because a scan and a lexer find the same items.
 ///
 /// # Errors
 ///

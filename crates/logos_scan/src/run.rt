@@ -147,8 +147,8 @@ fn restarted(reading: &Reading, run: Run, chunk: &mut ChunkEntries, to: usize) -
 }
 
 /// Returns the scan at the index `from` of the chunk, where a match attempt begins. Steps again
-/// over the bytes from this index on, until a byte leads to the same row as before. The scan must
-/// not have passed the entry at the index.
+/// over the bytes from this index on, until a byte leads to the same row as before. The last walk
+/// must have begun before this index.
 fn repaired_from(reading: &Reading, run: Run, chunk: &mut ChunkEntries, from: usize) -> Run
     requires reading { IsReading reading.now }
     requires chunk { IsChunk reading.now.rows.now reading.now.input.now (with_chunk chunk.old run) }

@@ -53,7 +53,7 @@ pub fn step(rows: &[u32], text: &[u8], row_start: usize, trace: &mut [u32], at: 
 }
 
 /// Steps over all bytes of the text, from the row `row_start` on: writes their entries into
-/// `trace`, and returns the row after them.
+/// `trace`, and returns the row after the last byte.
 pub fn walk(rows: &[u32], text: &[u8], row_start: usize, trace: &mut [u32]) -> usize
     requires closed { IsClosed rows.now }
     requires row_start { IsRowStart rows.now row_start }

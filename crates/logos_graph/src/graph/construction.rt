@@ -27,8 +27,8 @@ fn automaton_of_none(alloc: Global) -> Result<Dfa, BuildError>
     }
 }
 
-/// Returns the automaton of `rules`, or the automaton of no rules if the tree of a rule matches the
-/// empty string or has a look-around assertion before its first byte.
+/// Returns the automaton of `rules`. Returns the automaton of no rules if the tree of a rule
+/// matches the empty string or has a look-around assertion before its first byte.
 fn automaton(alloc: Global, rules: &[RuleView<'_>]) -> Result<Dfa, BuildError>
     requires { size_of (views.rules_of rules.now) ≤ 2 ^ 20 }
     ensures late { IfOk result (λ dfa. AllStart (views.rules_of rules.now) →

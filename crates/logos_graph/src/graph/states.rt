@@ -144,7 +144,7 @@ fn leaf(number: Option<usize>) -> Option<LeafId>
     Some(LeafId(number?))
 }
 
-/// Returns the type of a state with the mark `mark`.
+/// Returns the type of a state with the marks `mark`.
 fn type_of_mark(mark: StateMarks) -> StateType
     ensures { state_type_of result ≡ type_of mark }
 {

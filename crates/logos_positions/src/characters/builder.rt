@@ -114,7 +114,7 @@ fn row_for(
 }
 
 /// Returns the block of the characters that begin with `byte`, or `None` if no character begins
-/// with it.
+/// with `byte`.
 fn block_of(byte: u8) -> Option<Block>
     ensures block { MatchOption result (lead byte ≡ None)
         (λ block. lead byte ≡ Some (table.lead_of block)) }

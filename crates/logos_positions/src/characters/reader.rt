@@ -24,7 +24,7 @@ impl CharacterTable {
     ghost use Rattle.logos_positions.specs.Table as table;
 
     /// Returns the row after the first byte `byte`, or `None` if no character of the class begins
-    /// with it.
+    /// with `byte`.
     pub fn first(&self, byte: u8) -> Option<usize>
         ensures { result ≡ (table.reader_of self.now).first byte }
     {
@@ -35,7 +35,7 @@ impl CharacterTable {
     }
 
     /// Returns the row after `row` and `byte`, or `None` if no character of the class continues
-    /// with the byte.
+    /// with `byte`.
     pub fn follow(&self, row: usize, byte: u8) -> Option<usize>
         requires { row < self.now.rows }
         ensures { result ≡ (table.reader_of self.now).follow row byte }

@@ -12,7 +12,7 @@ use crate::positions::set::{
     OwnPositions, alike_copies, any_mark, has_mark, next_copy, own_positions,
 };
 
-/// Returns whether the tree `node` at `spot` can be left at the point `at`. `marks` are the
+/// Returns whether the tree `node` at `spot` can be left at the point `at`. `marks` contains the
 /// positions that read the byte before the point, in ascending order.
 #[cycle(exits)]
 pub(crate) fn exits(node: &Node, marks: &[usize], spot: TreeSpot, at: Context) -> bool
@@ -106,8 +106,8 @@ fn exits_node(node: &Node, marks: &[usize], spot: TreeSpot, at: Context) -> bool
     }
 }
 
-/// Returns whether a literal can be left. An empty literal can be left if it is entered, and any
-/// other literal if its last position is in the set `marks`.
+/// Returns whether a literal can be left. An empty literal can be left if the literal is entered.
+/// Any other literal can be left if its last position is in the set `marks`.
 fn exits_literal(text: &[u8], marks: &[usize], spot: TreeSpot) -> bool
     requires fits { spot.base + length text.now < 2 ^ 64 }
     requires rising { IsRising marks.now }

@@ -133,8 +133,8 @@ fn step_literal(
     Ok(left)
 }
 
-/// Appends the position `position + 1` to `next` if it belongs to the literal `text` and reads
-/// `byte`. The positions of the literal begin at `base`.
+/// Appends the position `position + 1` to `next` if this position belongs to the literal `text` and
+/// reads `byte`. The positions of the literal begin at `base`.
 ///
 /// # Errors
 ///

@@ -25,8 +25,8 @@ fn hull(one: Range, other: Range) -> Range
     }
 }
 
-/// Returns the index of the first of `ranges` that overlaps `range` or is adjacent to it, or the
-/// number of ranges if there is no such range.
+/// Returns the index of the first of `ranges` that overlaps `range` or is adjacent to `range`.
+/// Returns the number of ranges if there is no such range.
 fn near_range(ranges: &[Range], range: Range) -> usize
     ensures within { result ≤ length ranges.now }
     ensures near { IfSome (slice_get ranges.now result) (λ found. AreNear found range) }

@@ -13,9 +13,9 @@ pub struct Hints {
     counts: Vec<usize>,
     /// For each block, the number of its states.
     sizes: Vec<usize>,
-    /// For each block, whether it is still to be processed.
+    /// For each block, whether the block is still to be processed.
     pending: Vec<bool>,
-    /// For each block, the first symbol for which it is still to be processed.
+    /// For each block that is still to be processed, the first symbol for which it is.
     first: Vec<usize>,
     /// The blocks that are still to be processed.
     todo: Vec<usize>,

@@ -147,8 +147,8 @@ fn move_to(filing: &mut Filing, s: usize, block: usize) -> Result<(), AllocError
     Ok(())
 }
 
-/// Moves the hit state `s` to the new block that was split off its block, if there is one. The new
-/// blocks have numbers from `fresh` on.
+/// Moves the hit state `s` to the new block that was split off the block of `s`. Does nothing if
+/// there is no such new block. The new blocks have numbers from `fresh` on.
 fn move_hit(
     filing: &mut Filing,
     twins: &Vec<usize>,
@@ -180,8 +180,9 @@ fn move_hit(
     move_to(filing, s, twin)
 }
 
-/// Moves each state in `hits`, the list of all hit states, to the new block that was split off its
-/// block, if there is one. The new blocks have numbers from `fresh` on.
+/// Moves each state in `hits`, the list of all hit states, to the new block that was split off the
+/// block of the state. A state remains in its block if there is no such new block. The new blocks
+/// have numbers from `fresh` on.
 fn move_hits(
     filing: &mut Filing,
     twins: &Vec<usize>,

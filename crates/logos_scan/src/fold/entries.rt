@@ -70,8 +70,8 @@ fn step_at(code: &Code, state: usize, byte: u8) -> Step
     step_of(code.entry(WIDTH * state, byte))
 }
 
-/// Returns the row offset of the state after the byte, or `None` if it is not known that the byte
-/// continues the attempt.
+/// Returns the row offset of the state after the byte. Returns `None` unless it is known that the
+/// byte continues the attempt.
 fn row_start_after(code: &Code, state: usize, byte: u8) -> Option<usize>
     requires few { IsFew code.now }
     requires sound { IsSound code.now }
@@ -86,7 +86,8 @@ fn row_start_after(code: &Code, state: usize, byte: u8) -> Option<usize>
     }
 }
 
-/// Returns the row offset of the state to which the byte leads, or `None` if it leads nowhere.
+/// Returns the row offset of the state to which the byte leads, or `None` if the byte leads to no
+/// state.
 fn row_start_of_target(code: &Code, state: usize, byte: u8) -> Option<usize>
     requires few { IsFew code.now }
     requires sound { IsSound code.now }

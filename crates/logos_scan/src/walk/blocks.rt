@@ -37,7 +37,7 @@ fn column(rows: &[u32], text: &[u8], row_starts: &mut [usize; 6], trace: &mut [u
     }
 }
 
-/// Steps over the blocks in turns, each from its row in `row_starts` on. Writes the entries into
+/// Steps over the blocks alternately, each from its row in `row_starts` on. Writes the entries into
 /// `trace`, and replaces each row by the row after the block. Called out of line, so that all
 /// registers are available to the function.
 #[inline(never)]
