@@ -1,4 +1,5 @@
-//! Prints the enums of a source, from which the page selects an enum. Used by the program `enums`.
+//! `print` prints the enums of a source, so that the page can select an enum. Called for the
+//! program `enums`.
 
 use logos_build::logos_rust_file::{enums_in, path_of};
 use rattle_std::alloc::{AllocError, Global};
