@@ -94,8 +94,8 @@ fn closing(bytes: &[u8]) -> &'static str
     if bytes.len() > 60 { "\".." } else { "\"" }
 }
 
-/// Appends the shown form of bytes. If the bytes are not UTF-8, each byte that is not ASCII is
-/// escaped.
+/// Appends the shown form of bytes, in which hidden characters, quotes and backslashes are escaped.
+/// If the bytes are not UTF-8, each byte that is not ASCII is also escaped.
 fn push_shown(page: &mut Page, bytes: &[u8])
     ensures { Gains (shown.shown_bytes bytes.now) page.old page.new }
 {

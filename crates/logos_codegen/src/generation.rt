@@ -38,7 +38,7 @@ pub struct Generated<'s> {
     /// The path in the option `export_dir`, or `None` if the source does not have this option. A
     /// program writes the state diagram of the graph to this path.
     pub export_path: Option<String>,
-    /// The options of the source that determine the text around the body of its lexer.
+    /// The options of the source that determine the text around the body of the source's lexer.
     options: AroundOptions<'s>,
 }
 

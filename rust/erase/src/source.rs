@@ -150,7 +150,7 @@ impl<'t> Source<'t> {
         self.edits.push((from, if rest.starts_with('\n') { end + 1 } else { to }, ""));
     }
 
-    /// Returns the text of the source with all edits.
+    /// Returns the text of the source with all edits applied.
     pub(crate) fn edited(mut self) -> String {
         self.edits.sort_unstable_by_key(|edit| edit.0);
         let mut output = String::with_capacity(self.text.len() + 256);

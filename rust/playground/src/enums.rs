@@ -1,5 +1,5 @@
-//! `print` prints the enums of a source, so that the page can select an enum. Called for the
-//! program `enums`.
+//! `print` appends a line for each enum of a source. The page uses the lines to select an enum.
+//! Called for the program `enums`.
 
 use logos_build::logos_rust_file::{enums_in, path_of};
 use rattle_std::alloc::{AllocError, Global};

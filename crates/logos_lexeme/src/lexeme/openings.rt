@@ -74,8 +74,9 @@ fn raw_opening(content: Content, source: &str, at: usize) -> Option<Opening>
     Some(Opening::Raw(content, count as u8))
 }
 
-/// Returns the opening of a string. `at` is the byte offset after the string's prefix `b` or `c`, or
-/// the byte offset of a string without such a prefix. Returns `None` if there is no such string.
+/// Returns the opening of a string. `at` is the byte offset after the prefix `b` or `c` of the
+/// string, or the byte offset of a string without such a prefix. Returns `None` if there is no such
+/// string.
 #[tactic(auto, unfolding(crate::specs::LexemeOpenings::string_opening))]
 fn string_opening(content: Content, source: &str, at: usize) -> Option<Opening>
     requires { at ≤ length source.now + 1 }

@@ -271,7 +271,7 @@ fn name_end(negated: bool, text: &[char]) -> Option<(BracketToken, &[char])>
 }
 
 /// Reads `name:]` or `^name:]`. Returns the class and the rest of the text, or `None` if the text
-/// does not begin in one of these forms.
+/// does not begin with one of these forms.
 #[tactic(auto, unfolding(crate::specs::bracket::Reader::colon_at))]
 fn colon_at(text: &[char]) -> Option<(BracketToken, &[char])>
     ensures { option_map (λ x. (x.0, x.1.now)) result ≡ colon_at text.now }
@@ -284,7 +284,7 @@ fn colon_at(text: &[char]) -> Option<(BracketToken, &[char])>
 }
 
 /// Reads `:name:]` or `:^name:]`, a class of ASCII characters. Returns the class and the rest of
-/// the text, or `None` if the text does not begin in one of these forms.
+/// the text, or `None` if the text does not begin with one of these forms.
 #[tactic(auto, unfolding(crate::specs::bracket::Reader::class_at))]
 fn class_at(text: &[char]) -> Option<(BracketToken, &[char])>
     ensures { option_map (λ x. (x.0, x.1.now)) result ≡ class_at text.now }
