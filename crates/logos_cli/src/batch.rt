@@ -1,4 +1,4 @@
-//! Expands several files into a folder. Called by `program`.
+//! Expands several files into a folder. `program` calls `run_batch` if the output is a folder.
 
 ghost use Rattle.std.specs.Prelude.{◌≡◌, ◌≢◌, ◌⊎◌, ◌≤◌, ◌++◌, ◌∷◌, [], ℕ, All, Contains, IfOk, IsTrue, List, MatchOption, OnOk, drop, false, map, true};
 ghost use Rattle.logos_cli.specs.Views.{Appends, AreCarriedOut, AreDenied, AreTouched, IsApart, IsOwnOutput, Keeps, OrderValue, requests_each, batch_value, batch_file_order, has_twins, is_among, order_into, order_value, orders_into, orders_of, output_text, texts_of};

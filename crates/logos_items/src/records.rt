@@ -54,7 +54,7 @@ struct Records {
     counts: Counts,
 }
 
-/// Writes an object for each item of an input in blocks. The last objects remain in `records` for
+/// Writes, in blocks, an object for each item of an input. The last objects remain in `records` for
 /// the caller to write.
 fn write_all_records<O: Write>(
     code: &Code<'_>,
@@ -76,7 +76,7 @@ fn write_all_records<O: Write>(
     }
 }
 
-/// Writes an object for each remaining item of a lexer in blocks. The last objects remain in
+/// Writes, in blocks, an object for each remaining item of a lexer. The last objects remain in
 /// `records`.
 fn write_records<C: Fn(LeafId, &[u8]) -> Action, O: Write>(
     lexer: &mut Lexer<'_, '_, '_, C>,

@@ -99,7 +99,7 @@ fn too_long(alloc: Global, offset: usize) -> Failure<'static>
     }
 }
 
-/// Writes a line for each item of a stream in blocks. The last lines remain in `lines` for the
+/// Writes, in blocks, a line for each item of a stream. The last lines remain in `lines` for the
 /// caller to write. Returns the reason why the stream was not lexed to its end, or `None` if it was
 /// lexed to its end.
 fn write_stream<R: Read + Drop, C: Fn(LeafId, &[u8]) -> Action + Copy, O: Write>(

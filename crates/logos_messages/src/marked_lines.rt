@@ -8,7 +8,8 @@ use logos_json::JsonLines;
 use logos_lines::Location;
 use logos_report::Source;
 
-/// The maximum number of lines after the first line of a span whose lines are shown.
+/// The maximum number of lines after the first line of a span. No lines are shown for a span with
+/// more lines.
 const LINES: usize = 8;
 
 /// The maximum length in bytes of a line that is shown.

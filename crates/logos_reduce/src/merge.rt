@@ -51,8 +51,8 @@ struct Difference {
     symbol: usize,
 }
 
-/// Finds a state that leads to another block than the leader of its block on some symbol. Returns
-/// the state, the leader and the first such symbol, or `None` if there is no such state.
+/// Compares each state with the leader of its block. Returns a state, the leader, and a symbol on
+/// which the state and the leader lead to different blocks, or `None` if there is no such state.
 fn find_difference(table: &Table, blocks: &Vec<usize>, leaders: &Vec<usize>) -> Option<Difference>
     requires len { vec_len blocks.now ≡ size table.now }
     requires within { (s : ℕ) → s < size table.now →

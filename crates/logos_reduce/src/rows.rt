@@ -93,8 +93,8 @@ impl Rows {
         &self.distinct.keys[slot]
     }
 
-    /// Returns the index of `row` among the distinct rows if it equals the last row that was added
-    /// with the hash `hash`, and `None` otherwise.
+    /// Returns the index of `row` among the distinct rows if `row` equals the last row that was
+    /// added with the hash `hash`, and `None` otherwise.
     fn find(&self, row: &Row, hash: u64) -> Option<usize>
         ensures { IfSome result (λ slot. (slot < vec_len self.now.distinct.keys)
             × (slice_index_or self.now.distinct.keys.items slot [] ≡ row.now)) }

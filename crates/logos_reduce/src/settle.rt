@@ -93,8 +93,8 @@ fn note_edge(table: &Table, target: Option<usize>, early: Option<usize>, needed:
     }
 }
 
-/// Sets the flag in `needed` of each target of the state `s`, if the late mark of the target
-/// differs from `early`, the early mark of `s`.
+/// Sets the flags in `needed` of those targets of the state `s` whose late marks differ from
+/// `early`, the early mark of `s`.
 fn note_targets(table: &Table, s: usize, early: Option<usize>, needed: &mut Vec<bool>)
     requires state { s < size table.now }
     requires len { vec_len needed.old ≡ size table.now }

@@ -1,4 +1,4 @@
-//! Contains tables of states, with the marks of each state and its row of targets. `logos_graph`
+//! Contains tables of states, with the marks and the row of targets of each state. `logos_graph`
 //! builds a table from an automaton, and `reduce` builds further tables from this table.
 
 ghost use Rattle.std.specs.Prelude.{◌≡◌, ℕ, ◌+◌, ◌<◌, ◌^◌, Some, length, vec_len};

@@ -15,7 +15,8 @@ pub struct Hints {
     sizes: Vec<usize>,
     /// For each block, whether the block is still to be processed.
     pending: Vec<bool>,
-    /// For each block that is still to be processed, the first symbol for which it is.
+    /// For each block that is still to be processed, the first symbol for which the block is to be
+    /// processed.
     first: Vec<usize>,
     /// The blocks that are still to be processed.
     todo: Vec<usize>,
