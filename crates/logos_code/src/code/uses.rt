@@ -8,7 +8,7 @@ use super::{CodeLeaf, CodeParts};
 use logos_pattern::leaf::VariantKind;
 use std::alloc::{AllocError, Global};
 
-/// The use of a leaf's matches, in two bytes. A lexer reads these two bytes instead of a `CodeLeaf`,
+/// The use of a leaf's matches, in two bytes. A lexer reads the two bytes instead of a `CodeLeaf`,
 /// which is larger.
 #[derive(Clone, Copy)]
 pub(crate) struct LeafUse {
