@@ -96,9 +96,9 @@ pub(crate) fn push_help(page: &mut Page, shown: ShownFault<'_, '_, '_>)
     }
 }
 
-/// Appends the nonempty lines of a fault's message after the first line. For an ambiguous leaf, the
-/// first of these lines name the other leaves of the set, each followed by the location of the
-/// leaf's fault.
+/// Appends the nonempty lines of a fault's message after the first line. In the message about an
+/// ambiguous leaf, the lines after the first line begin with one line for each other leaf of the
+/// set. Such a line is followed by the location of the other leaf's fault.
 fn push_other_lines(page: &mut Page, shown: ShownFault<'_, '_, '_>)
     ensures { Shows [] page.old page.new }
 {
