@@ -279,8 +279,8 @@ impl<'s> Subpatterns<'s> {
     }
 
     /// Reads `text`, the text of a subpattern, as a pattern. Stores the subpattern if the text can
-    /// be read and the pattern does not match invalid UTF-8 in UTF-8 mode. Reports the fault
-    /// otherwise. `named` contains the name and the literal of the subpattern.
+    /// be read and, in UTF-8 mode, the pattern cannot match invalid UTF-8. Otherwise reports the
+    /// fault. `named` contains the name and the literal of the subpattern.
     fn test(
         &mut self,
         utf8_mode: bool,
