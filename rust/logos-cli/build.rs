@@ -1,14 +1,15 @@
 //! Erases the crates of the programs into `OUT_DIR`, except for the crates that the package
-//! `logos-codegen` contains. Sets the variable `LOGOS_COMMIT` for the compiler to the commit of the
-//! clone. The variable is empty if there is no clone, or if a file of the clone has changed.
+//! `logos-codegen` contains. Sets the environment variable `LOGOS_COMMIT` of the compiler to the
+//! commit of the clone. The variable is empty if there is no clone, or if a file of the clone has
+//! changed.
 
 use rattle_erase::{Crates, LIBRARY, build};
 use std::io;
 use std::path::Path;
 use std::process::{Command, ExitCode};
 
-/// A function that is added to the module of the program `logos`, because the module's own function
-/// is private.
+/// A public function that is added to the module of the program `logos`. The function calls
+/// `run_logos`, which is private.
 const RUN_LOGOS: &str = "\
 /// Runs the command of `logos` that the arguments name. Returns the exit status.
 pub fn run_logos_program(rt: &HostRuntime, arguments: Result<Vec<String>, Failure<'static>>) -> u8 {
@@ -17,7 +18,7 @@ pub fn run_logos_program(rt: &HostRuntime, arguments: Result<Vec<String>, Failur
 ";
 
 /// A re-export that is added to the modules of `logos_cli` and `logos_show`, because the function
-/// is private in these modules.
+/// `run` is private in these modules.
 const RUN_COMMAND: &str = "pub(crate) use self::program::run as run_command;\n";
 
 fn erase() -> io::Result<()> {

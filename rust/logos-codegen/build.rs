@@ -1,4 +1,5 @@
-//! Erases the crates of the library into `OUT_DIR`, as modules that `src/lib.rs` includes.
+//! Removes the contracts from the crates of the library, and writes the results to `OUT_DIR` as
+//! modules, which `src/lib.rs` includes.
 
 use rattle_erase::{Crates, LIBRARY, build};
 use std::io;

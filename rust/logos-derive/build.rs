@@ -4,8 +4,8 @@
 use std::fs;
 use std::path::{Path, PathBuf};
 
-/// The folders with the sources of the macro and of the packages that it calls, relative to the
-/// package. In a package from a registry only the first folder exists, and the version of the
+/// The directories with the sources of the macro and of the packages that it calls, relative to the
+/// package. In a package from a registry, only the first directory exists, and the version of the
 /// package identifies the other sources.
 const FOLDERS: [&str; 4] = [
     "src",
@@ -14,11 +14,11 @@ const FOLDERS: [&str; 4] = [
     "../erase/src",
 ];
 
-/// The folder of the crates in Rattle, and a file beside this folder. The crates are read only if
-/// both exist.
+/// The directory of the crates in Rattle, and a file beside this directory. The crates are read
+/// only if both exist.
 const CRATES: [&str; 2] = ["../../crates", "../../crates.txt"];
 
-/// The names of folders that do not affect the behavior of the library.
+/// The names of directories that do not affect the behavior of the library.
 const LEFT_OUT: [&str; 6] = ["must-fail", "out", "proofs", "specs", "target", "tests"];
 
 fn main() {
@@ -39,8 +39,8 @@ fn main() {
     println!("cargo::rustc-env=LOGOS_LIBRARY={sum:016x}");
 }
 
-/// Adds the paths of the Rust and Rattle sources in a folder to `files`. Links to folders are not
-/// followed.
+/// Adds the paths of the Rust and Rattle sources in a directory to `files`. Symbolic links to
+/// directories are not followed.
 fn add_sources(folder: &Path, files: &mut Vec<PathBuf>) {
     let Ok(entries) = fs::read_dir(folder) else {
         return;

@@ -1,4 +1,4 @@
-//! Erases the contracts of the programs of the tests and the examples. Writes each program into
+//! Erases the contracts from the programs of the tests and the examples. Writes each program into
 //! `OUT_DIR` as a module.
 
 use rattle_erase::{Crates, Module, Paths, build};

@@ -1,5 +1,5 @@
-//! Appends a note about variants whose callbacks are written differently in two lexers. Used by
-//! `logos_replies` for `--compare`.
+//! `push_callbacks` appends a note about variants whose callbacks are written differently in two
+//! lexers. Called by `logos_replies` for `--compare`.
 
 use crate::difference::NamedLexer;
 use crate::names::variant_of;
@@ -8,13 +8,13 @@ use logos_page::Page;
 use logos_pattern::leaf::Leaf;
 use std::alloc::{AllocError, Global};
 
-/// The variants and callbacks of a lexer, for lookups.
+/// Sets of the variants and the callbacks of a lexer.
 #[derive(Drop)]
 struct Known<'l> {
     /// The names of the lexer's variants, and `skip` if the lexer has skips.
     variants: IndexSet<&'l str>,
-    /// Pairs of a leaf's name in `variants` and the text of the leaf's callback. The text is empty
-    /// if the leaf has no callback.
+    /// For each leaf, its name in `variants` with the text of its callback. The text is empty if
+    /// the leaf has no callback.
     callbacks: IndexSet<(&'l str, &'l str)>,
 }
 
@@ -34,7 +34,7 @@ pub fn push_callbacks<'l>(
     push_differing(alloc, page, &known, other)
 }
 
-/// Appends the note about `other` and the lexer whose variants and callbacks are in `known`.
+/// Appends the note about callbacks that differ between the lexer of `known` and the lexer `other`.
 fn push_differing<'l>(
     alloc: Global,
     page: &mut Page,
@@ -45,7 +45,7 @@ fn push_differing<'l>(
     push_names_of(alloc, page, known, &other)
 }
 
-/// Appends the note about the two lexers whose variants and callbacks are in `known` and `other`.
+/// Appends the note about callbacks that differ between the lexers of `known` and `other`.
 fn push_names_of<'l>(
     alloc: Global,
     page: &mut Page,
@@ -104,8 +104,8 @@ fn callback_of<'l>(text: &'l str, leaf: &Leaf<'_>) -> &'l str {
     }
 }
 
-/// Adds to `differing` each variant in both `known` and `other` for which `known` has a callback
-/// that `other` does not have.
+/// Adds to `differing` each variant that is in `known` and in `other`, and that has a callback in
+/// `known` that the variant does not have in `other`.
 fn add_differing<'l>(
     differing: &mut IndexSet<&'l str>,
     known: &Known<'l>,

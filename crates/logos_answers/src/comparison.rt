@@ -1,4 +1,5 @@
-//! Compares two lexers by the names of their variants. Used by `logos_replies` for `--compare`.
+//! `compare_lexers` determines whether two lexers find equal items. Items are compared by the names
+//! of their variants. Called by `logos_replies` for `--compare`.
 
 ghost use Rattle.std.specs.Prelude.{◌≡◌, [], Some, IfOk, OnOk, length, option_map};
 ghost use Rattle.logos_answers.specs.Views.{AreDistinct, AreNumbers, Grows, IsGraphOf, IsNumberOf, IsCompared, compared_by};

@@ -1,4 +1,5 @@
-//! Counts the items of each leaf, and the errors. Used by `notes` and `logos_items`.
+//! Defines `Counts`, which contains the number of items of each leaf and the number of errors. Used
+//! by `notes` and `logos_items`.
 
 ghost use Rattle.std.specs.Prelude.{◌≡◌, ◌<◌, length, option_map};
 ghost use Rattle.logos_answers.specs.Imports.{Gains, code_variant, count_line, next_shares_variant, is_same_name, line_after, sum_after, time_line, title_line, variant_line};
@@ -15,7 +16,7 @@ pub struct Counts {
     errors: usize,
 }
 
-/// The length of an input, and the time for lexing the input and writing its items.
+/// The length of an input in bytes, and the time taken to lex the input and write its items.
 #[derive(Clone, Copy)]
 pub struct Totals {
     pub bytes: usize,
@@ -27,7 +28,7 @@ impl Counts {
     ghost use Rattle.std.specs.Prelude.{◌≡◌, IfOk, replicate, slice_index};
     ghost use Rattle.logos_answers.specs.Imports.{CountsItem, Gains, ends_text, one_more, totals_text, variant_lines};
 
-    /// Returns counts of zero for `leaves` leaves.
+    /// Returns counts that are all zero, for `leaves` leaves.
     ///
     /// # Errors
     ///
@@ -40,8 +41,8 @@ impl Counts {
         Ok(Counts { by_leaf, errors: 0 })
     }
 
-    /// Adds 1 to the number of items of `leaf`, up to `usize::MAX`. Does nothing if there is no
-    /// such leaf.
+    /// Adds 1 to the number of items of `leaf`, saturating at `usize::MAX`. Does nothing if there
+    /// is no such leaf.
     #[inline(always)]
     pub fn count_token(&mut self, leaf: usize)
         ensures leaves { CountsItem leaf self.old.by_leaf.items self.new.by_leaf.items }
@@ -52,7 +53,7 @@ impl Counts {
         }
     }
 
-    /// Adds 1 to the number of errors, up to `usize::MAX`.
+    /// Adds 1 to the number of errors, saturating at `usize::MAX`.
     pub fn count_error(&mut self)
         ensures leaves { self.new.by_leaf.items ≡ self.old.by_leaf.items }
         ensures errors { self.new.errors ≡ one_more self.old.errors }
@@ -60,9 +61,9 @@ impl Counts {
         self.errors = self.errors.saturating_add(1);
     }
 
-    /// Appends the enum's name `name`, a line with the number of items for each variant that has
-    /// items, and lines with the number of errors and with the length and the time in `totals`. The
-    /// time is left out if it is unknown. The leaves of each variant must be consecutive.
+    /// Appends the enum's name `name`, the number of items of each variant, the number of errors,
+    /// and the length and the time in `totals`, each on its own line. Leaves out variants without
+    /// items, and the time if it is unknown. The leaves of each variant must be consecutive.
     pub fn push_totals(&self, page: &mut Page, name: &str, leaves: &[CodeLeaf<'_>], totals: Totals)
         ensures { Gains (totals_text name.now leaves.now self.now.by_leaf.items self.now.errors
             totals.bytes totals.passed) page.old page.new }
@@ -87,8 +88,8 @@ impl Counts {
         }
     }
 
-    /// Appends lines with the number of errors and with the length and the time in `totals`. The
-    /// time is left out if it is unknown.
+    /// Appends the number of errors, and the length and the time in `totals`, each on its own line.
+    /// Leaves out the time if it is unknown.
     fn push_ends(&self, page: &mut Page, totals: Totals)
         ensures { Gains (ends_text self.now.errors totals.bytes totals.passed) page.old page.new }
     {

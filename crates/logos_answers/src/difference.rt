@@ -1,5 +1,5 @@
-//! Appends the match or the error that each of two lexers finds first in an input on which they
-//! differ. Used by `callbacks`, `logos_records`, `logos_replies` and `logos_show`.
+//! Functions that append, for an input on which two lexers differ, the match or the error that each
+//! lexer finds first. Used by `callbacks`, `logos_records`, `logos_replies` and `logos_show`.
 
 ghost use Rattle.std.specs.Prelude.{◌≡◌, ◌++◌, ℕ, List, OnOk, codes, if◌then◌else◌};
 ghost use Rattle.logos_answers.specs.Imports.{Gains, difference_line, mode_line};
@@ -128,7 +128,7 @@ fn push_finding(
     Ok(())
 }
 
-/// Appends the bytes of an error in quotes, or `nothing` if `error` is empty.
+/// Appends `an error, ` and the bytes of `error` in quotes, or `nothing` if `error` is empty.
 fn push_error(page: &mut Page, error: &[u8]) {
     if error.is_empty() {
         page.push("nothing");

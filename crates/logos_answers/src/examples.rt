@@ -1,5 +1,6 @@
-//! Appends, for each leaf, an input on which the leaf is found and an input on which the leaf loses
-//! to another leaf. Used by `logos_html`, `logos_records` and `logos_replies`.
+//! Functions that find and append two examples for a leaf: an input on which the leaf is found, and
+//! an input on which the leaf loses to another leaf. Used by `logos_html`, `logos_records` and
+//! `logos_replies`.
 
 ghost use Rattle.std.specs.Prelude.{◌≡◌, ◌++◌, ℕ, [], codes, IfOk, MatchOption, OnOk, length, option_map};
 ghost use Rattle.logos_answers.specs.Views as shown;

@@ -1,4 +1,5 @@
-//! Compares an answer with a stored answer. Used by `logos_replies` for `--expect`.
+//! `push_agreement` compares an answer with a stored answer. Called by `logos_replies` for
+//! `--expect`.
 
 ghost use Rattle.std.specs.Prelude.{◌≡◌, ◌≤◌, ◌↔◌, ◌++◌, ℕ, List, IsTrue, drop, length, take};
 ghost use Rattle.logos_answers.specs.Imports.{Gains, IsLineStart, ShowsAgreement, line_text, timeless};
@@ -87,7 +88,7 @@ fn push_difference(page: &mut Page, path: &str, stored: &[u8], made: &[u8])
     push_line(page, "found    ", line_from(made, start));
 }
 
-/// Returns the length in bytes of the common prefix of two texts.
+/// Returns the length in bytes of the longest common prefix of two texts.
 fn common_length(one: &[u8], other: &[u8]) -> usize
     ensures { result ≤ length one.now }
 {

@@ -1,5 +1,5 @@
-//! Appends inputs that together take all edges of a graph. Used by `logos_records` and
-//! `logos_replies` for `--inputs`.
+//! `push_inputs` appends inputs that together take all edges of a graph. Used by `logos_records`
+//! and `logos_replies` for `--inputs`.
 
 ghost use Rattle.std.specs.Prelude.{◌≡◌, IfOk, map, take};
 ghost use Rattle.logos_answers.specs.Imports.{flat_map, Gains, ShowsInputs, input_line};
@@ -10,8 +10,8 @@ use logos_graph::graph::Graph;
 use logos_page::Page;
 use std::alloc::{AllocError, Global};
 
-/// Appends inputs that together take all edges of a graph, as Rust literals, one on each line.
-/// Appends at most the first `most` inputs, and returns the number of all inputs found.
+/// Appends the first `most` inputs of a list of inputs that together take all edges of a graph.
+/// Each input is a Rust literal on its own line. Returns the number of inputs in the list.
 ///
 /// # Errors
 ///

@@ -1,6 +1,7 @@
-//! Writes answers about lexers as lines of text: the leaves of a lexer, its items, the matches that
-//! begin at an offset, examples for each leaf, inputs that together take all edges of a graph, and
-//! the results of comparing two lexers or two answers. Called by `logos_show` and `logos_items`.
+//! Functions that write answers about lexers as lines of text: the leaves of a lexer, its items,
+//! the matches that begin at an offset, examples for each leaf, inputs that together take all edges
+//! of a graph, and the results of comparing two lexers or two answers. Called by `logos_show` and
+//! `logos_items`.
 
 #![tactic(auto)]
 

@@ -1,4 +1,4 @@
-//! Appends the line of an item to a block of bytes. Used by `logos_items`.
+//! `push_item` appends the line of an item to a block of bytes. Called by `logos_items`.
 
 ghost use Rattle.std.specs.Prelude.{◌≡◌, ◌<◌, ◌≤◌, ◌+◌, length};
 
@@ -22,8 +22,9 @@ const HEAD: usize = 64;
 pub const LINE: usize = 347;
 
 /// Appends the line of an item to `block`. The line consists of the item's location, the text
-/// `head`, which names the item and opens the quotes, and the item's text `slice` with the closing
-/// quote. A short line is assembled in the buffer `line` first.
+/// `head`, the item's text `slice`, and the closing quote. `head` names the item and ends with the
+/// opening quote. If `head` has at most `HEAD` bytes and `slice` consists of at most `SHOWN` ASCII
+/// characters, the line is first assembled in the buffer `line`.
 ///
 /// # Errors
 ///
@@ -60,8 +61,8 @@ fn write_location(line: &mut [u8; LINE], location: Location) -> usize
     write_digits(location.line as u64, line, colon)
 }
 
-/// Completes the line of an item with a short ASCII text: writes `head`, `slice`, the closing quote
-/// and a line end after the location in `line`. Returns the index at which the line ends.
+/// Completes the line of an item in `line`: writes `head`, `slice`, the closing quote and a line
+/// end after the location. Returns the index at which the line ends.
 #[inline(always)]
 fn write_short(line: &mut [u8; LINE], head: &[u8], slice: &[u8]) -> usize
     requires head { length head.now ≤ 64 }
@@ -158,8 +159,8 @@ fn push_number(block: &mut Vec<u8>, number: usize) -> Result<(), AllocError> {
     block.extend_from_slice(&digits[from..])
 }
 
-/// Appends the shown part of an item, the closing quote, and the item's length if the item is not
-/// shown in full.
+/// Appends the shown part of an item and the closing quote. If the item is not shown in full, also
+/// appends two dots and the item's length.
 fn push_quoted(block: &mut Vec<u8>, slice: &[u8]) -> Result<(), AllocError> {
     match str::from_utf8(slice) {
         Ok(text) => push_text(block, text),
@@ -167,8 +168,8 @@ fn push_quoted(block: &mut Vec<u8>, slice: &[u8]) -> Result<(), AllocError> {
     }
 }
 
-/// Appends the first `SHOWN` characters of a text, the closing quote, and the number of characters
-/// if it exceeds `SHOWN`.
+/// Appends the first `SHOWN` characters of a text and the closing quote. If the text has more
+/// characters, also appends two dots and the number of characters.
 fn push_text(block: &mut Vec<u8>, text: &str) -> Result<(), AllocError> {
     for character in text.chars().take(SHOWN) {
         push_character(block, character)?;
@@ -176,8 +177,8 @@ fn push_text(block: &mut Vec<u8>, text: &str) -> Result<(), AllocError> {
     push_end(block, text.chars().count(), " characters")
 }
 
-/// Appends the first `SHOWN` bytes of an item that is not UTF-8, the closing quote, and the number
-/// of bytes if it exceeds `SHOWN`.
+/// Appends the first `SHOWN` bytes of an item that is not UTF-8 and the closing quote. If the item
+/// has more bytes, also appends two dots and the number of bytes.
 fn push_bytes(block: &mut Vec<u8>, slice: &[u8]) -> Result<(), AllocError> {
     for byte in slice.iter().take(SHOWN) {
         push_byte(block, *byte)?;

@@ -1,4 +1,4 @@
-//! Reads a line and a column from an argument. Used by `logos_questions`.
+//! Functions that read a location or a number from an argument. Used by `logos_questions`.
 
 ghost use Rattle.std.specs.Prelude.{◌≡◌, Some};
 ghost use Rattle.logos_answers.specs.Locations.{digits_after, number_named, location_named, location_of, positive, with_digit};

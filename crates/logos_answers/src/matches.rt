@@ -1,5 +1,5 @@
-//! Appends the matches that begin at an offset of an input. Used by `difference`, `examples`,
-//! `logos_replies` and other crates.
+//! Functions that append the matches that begin at an offset of an input. Used by `difference`,
+//! `examples`, `logos_replies` and other crates.
 
 ghost use Rattle.std.specs.Prelude.{◌≡◌, ◌<◌, ◌≤◌, ◌-◌, ◌==◌, ℕ, List, None, Some, IfOk, OnErr, OnOk, codes, get_or, if◌then◌else◌, length};
 ghost use Rattle.logos_answers.specs.Imports as shown;
@@ -22,8 +22,9 @@ struct MatchStart<'a, 's> {
 }
 
 /// Appends a line for each leaf with a match that begins at the byte offset `from` of an input: the
-/// leaf, its priority, and its longest match from this offset. Then appends a line with the leaf
-/// whose match a lexer selects, and the reason, or a line stating that no leaf matches.
+/// leaf, its priority, and its longest match from this offset. Then appends a line that names the
+/// leaf whose match a lexer selects and the reason for the selection, or that states that no leaf
+/// matches.
 ///
 /// # Errors
 ///
@@ -189,7 +190,7 @@ fn unit_of(count: usize) -> &'static str
     if count == 1 { " byte" } else { " bytes" }
 }
 
-/// Returns the bytes `from..to` of an input, or no bytes if the input has no such bytes.
+/// Returns the bytes `from..to` of an input, or no bytes if `from..to` is not a range of the input.
 pub fn bytes_between(input: &[u8], from: usize, to: usize) -> &[u8]
     ensures { result.now ≡ shown.bytes_between input.now from to }
 {
@@ -199,8 +200,8 @@ pub fn bytes_between(input: &[u8], from: usize, to: usize) -> &[u8]
     }
 }
 
-/// Appends the line with the leaf whose match a lexer selects, and the reason, or a line stating
-/// that no leaf matches.
+/// Appends a line that names the leaf whose match a lexer selects and the reason for the selection,
+/// or that states that no leaf matches.
 fn push_verdict(page: &mut Page, leaves: &[Leaf<'_>], matches: &[Match])
     ensures { (text : List ℕ) × shown.IsVerdict leaves.now matches.now text
         × Gains text page.old page.new }
@@ -211,7 +212,8 @@ fn push_verdict(page: &mut Page, leaves: &[Leaf<'_>], matches: &[Match])
     }
 }
 
-/// Appends the line with the leaf of the selected match `found`, and the reason.
+/// Appends the line that names the leaf of the selected match `found` and the reason for the
+/// selection.
 fn push_winner(page: &mut Page, leaves: &[Leaf<'_>], matches: &[Match], found: Match)
     ensures { Gains (shown.winner_text leaves.now matches.now found) page.old page.new }
 {

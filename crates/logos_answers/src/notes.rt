@@ -1,4 +1,4 @@
-//! Returns the note about callbacks that were not called. Used by `logos_items`.
+//! `note_of` returns the note about callbacks that were not called. Called by `logos_items`.
 
 use crate::counts::{Counts, code_name_at};
 use logos_code::code::CodeLeaf;

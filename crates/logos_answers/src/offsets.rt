@@ -1,4 +1,4 @@
-//! Finds the byte offset of a location in an input. Used by `logos_replies`.
+//! `offset_of` finds the byte offset of a location in an input. Called by `logos_replies`.
 
 ghost use Rattle.std.specs.Prelude.{◌≡◌, ◌↔◌, ℕ, IsTrue, MatchOption, false};
 ghost use Rattle.logos_answers.specs.Imports.{IsOffsetOf, continues};

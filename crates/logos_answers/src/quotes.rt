@@ -1,6 +1,6 @@
-//! Appends bytes in quotes, with escapes for control characters, invisible characters, and
-//! characters that change the direction of a line. Used by the modules that append inputs or
-//! matches, and by other crates.
+//! Functions that append bytes in quotes, with escapes for control characters, invisible
+//! characters, and characters that change the direction of text. Used by the modules that append
+//! inputs or matches, and by other crates.
 
 ghost use Rattle.std.specs.Prelude.{◌≡◌, ◌<◌, ◌/◌, ◌%◌, length};
 ghost use Rattle.logos_answers.specs.Quoting as shown;
@@ -94,8 +94,8 @@ fn closing(bytes: &[u8]) -> &'static str
     if bytes.len() > 60 { "\".." } else { "\"" }
 }
 
-/// Appends the shown form of bytes. If the bytes are not UTF-8, each byte that is not ASCII is
-/// escaped.
+/// Appends the shown form of bytes, in which hidden characters, quotes and backslashes are escaped.
+/// If the bytes are not UTF-8, each byte that is not ASCII is also escaped.
 fn push_shown(page: &mut Page, bytes: &[u8])
     ensures { Gains (shown.shown_bytes bytes.now) page.old page.new }
 {
@@ -242,7 +242,8 @@ pub(crate) fn is_hidden(number: u32) -> bool
         | (is_hidden_filler(number) | (is_hidden_mark(number) | is_hidden_special(number)))
 }
 
-/// Returns whether a character is a control character, or an invisible character up to U+061C.
+/// Returns whether the character with the code point `number` is a control character, U+00AD,
+/// U+034F or U+061C.
 fn is_hidden_low(number: u32) -> bool
     ensures { result ≡ shown.is_hidden_low number }
 {
@@ -251,7 +252,8 @@ fn is_hidden_low(number: u32) -> bool
             | ((number == 0xAD) | ((number == 0x34F) | (number == 0x61C))))
 }
 
-/// Returns whether a character is an invisible letter or vowel, or a Mongolian format control.
+/// Returns whether the character with the code point `number` is a Hangul filler, an inherent vowel
+/// of Khmer, or a variation selector or the vowel separator of Mongolian.
 fn is_hidden_filler(number: u32) -> bool
     ensures { result ≡ shown.is_hidden_filler number }
 {
@@ -260,8 +262,9 @@ fn is_hidden_filler(number: u32) -> bool
             | (is_between(0x180B, 0x180F, number) | ((number == 0x3164) | (number == 0xFFA0))))
 }
 
-/// Returns whether a character has no width, ends a line, changes the direction of a line, or
-/// selects a variant of a glyph.
+/// Returns whether the character with the code point `number` is a character without width, a line
+/// or paragraph separator, a control of the direction of text, or a variation selector, from one of
+/// the blocks General Punctuation, Variation Selectors and Arabic Presentation Forms-B.
 fn is_hidden_mark(number: u32) -> bool
     ensures { result ≡ shown.is_hidden_mark number }
 {
@@ -271,8 +274,9 @@ fn is_hidden_mark(number: u32) -> bool
                 | (is_between(0xFE00, 0xFE0F, number) | (number == 0xFEFF))))
 }
 
-/// Returns whether a character is a Unicode special character up to U+FFFB, a tag, or a
-/// supplementary variation selector.
+/// Returns whether the code point `number` is in one of two ranges: U+FFF0 to U+FFFB in the block
+/// Specials, or U+E0000 to U+E0FFF, which contains the tags and the supplementary variation
+/// selectors.
 fn is_hidden_special(number: u32) -> bool
     ensures { result ≡ shown.is_hidden_special number }
 {

@@ -1,4 +1,5 @@
-//! Appends the leaves of a lexer as a table, and the costs of the lexer. Used by `logos_replies`.
+//! Functions that append the leaves of a lexer as a table, and the costs of the lexer. Used by
+//! `logos_replies`.
 
 use logos_inspect::{Costs, LeafRow};
 use logos_page::{Page, digits};

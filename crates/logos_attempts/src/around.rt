@@ -12,7 +12,7 @@ use logos_page::Page;
 use logos_pattern::leaf::Leaf;
 use std::str;
 
-/// The kind of the result of a match attempt.
+/// The kind of match or error that a match attempt finds.
 #[derive(Clone, Copy, Debug, PartialEq, Eq)]
 pub enum SurroundingKind {
     /// A skipped match.

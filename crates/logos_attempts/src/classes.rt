@@ -1,5 +1,5 @@
-//! Appends sets of bytes in the short form in which a pattern spells them. Called by `partials`,
-//! `partial_lines` and `logos_diagram`.
+//! `push_class` and `push_needed` append a set of bytes to a page, in the short form in which a
+//! pattern spells the set. Called by `partials`, `partial_lines` and `logos_diagram`.
 
 ghost use Rattle.std.specs.Prelude.{◌<◌};
 
@@ -7,15 +7,17 @@ use logos_graph::byte_class::ByteClass;
 use logos_page::Page;
 use std::ops::RangeInclusive;
 
-/// The maximum number of ranges of needed bytes that are shown.
+/// The maximum number of ranges that [`push_needed`] appends.
 const NEEDED: usize = 12;
 
 /// The number of ASCII characters.
 const ASCII: usize = 128;
 
-/// Appends the set `class` of bytes that can follow a partial match. If one range of the set
-/// contains all bytes that begin a non-ASCII character, appends `any byte`, `any character`, or the
-/// ASCII characters that the set excludes.
+/// Appends the set `class` of bytes that can follow a partial match.
+///
+/// If one range of the set contains all bytes that begin a non-ASCII character, appends `any byte`,
+/// `any character`, or the ASCII characters that the set excludes. Otherwise, appends the first
+/// [`NEEDED`] ranges.
 pub(crate) fn push_needed(page: &mut Page, class: &ByteClass) {
     if !is_wide(class) {
         return push_class(page, class, NEEDED);
@@ -111,7 +113,7 @@ fn push_others(page: &mut Page, count: usize) {
     }
 }
 
-/// Appends the first byte of a range, and also the last byte if it differs from the first.
+/// Appends the first byte of a range, and also the last byte if the two bytes differ.
 fn push_range(page: &mut Page, range: &RangeInclusive<u8>) {
     let first = *range.start();
     let last = *range.end();

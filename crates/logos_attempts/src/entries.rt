@@ -73,7 +73,8 @@ fn add_attempt(entries: &mut Entries, states: &[&StateData], input: &[u8], end: 
     }
 }
 
-/// Counts in `entries` the state to which the end of the input leads from `state`, if there is one.
+/// Counts in `entries` the state to which the end of the input leads from `state`. Does nothing if
+/// there is no such state.
 fn add_end(entries: &mut Entries, states: &[&StateData], state: usize)
     ensures { entries.new.end ≡ entries.old.end }
 {

@@ -1,5 +1,5 @@
 //! Finds the match or the error around an offset of an input, finds partial matches at an offset
-//! where no leaf matches, and counts the states that match attempts enter. Called by
+//! where no leaf matches, and counts how often match attempts enter each state. Called by
 //! `logos_replies` and `logos_html`.
 
 #![tactic(auto)]

@@ -1,5 +1,5 @@
-//! Appends lines that show partial matches at an offset where no leaf matches. Called by
-//! `logos_html` and `logos_replies`.
+//! `push_partials` appends lines to a page that show the partial matches at an offset where no leaf
+//! matches. Called by `logos_html` and `logos_replies`.
 
 ghost use Rattle.std.specs.Prelude.{◌≡◌, ◌≤◌, ℕ, List, IfOk, IsTrue, OnErr, OnOk, length, string_bytes};
 ghost use Rattle.logos_attempts.specs.Views.{AddsLine, ArePartialLines, CodeFinds, Gains, IsPartialText, failed, partial_line, read_text, reader_text};
@@ -15,7 +15,7 @@ use logos_page::Page;
 use logos_pattern::leaf::Leaf;
 use std::alloc::{AllocError, Global};
 
-/// The maximum number of leaves that are shown.
+/// The maximum number of leaves for which [`push_partials`] appends a line.
 const SHOWN: usize = 8;
 
 /// A byte offset `from` of an input, and the leaves that may read bytes from this offset on.
@@ -123,7 +123,8 @@ fn others_text(alloc: Global, count: usize) -> Result<String, AllocError> {
     page.finish()
 }
 
-/// Appends the line of the partial match with this rank, counted from 0, if there is one.
+/// Appends the line of the partial match with the rank `rank`, counted from 0. Appends nothing if
+/// there is no such partial match.
 ///
 /// # Errors
 ///
@@ -144,7 +145,7 @@ fn push_ranked(
     push_checked(alloc, page, start, partial)
 }
 
-/// Returns the partial match with this rank, counted from 0, or `None` if there is none.
+/// Returns the partial match with the rank `rank`, counted from 0, or `None` if there is none.
 fn ranked(partials: &[PartialMatch], rank: usize) -> Option<&PartialMatch> {
     for partial in partials {
         if rank_of(partials, partial) == rank {
@@ -249,8 +250,8 @@ fn push_next(page: &mut Page, partial: &PartialMatch) {
     }
 }
 
-/// Appends the bytes that complete a partial match. Appends nothing if there are none, or if they
-/// are all bytes that continue the partial match.
+/// Appends the bytes that complete a partial match. Appends nothing if there are none, or if all of
+/// them also continue the partial match.
 fn push_last(page: &mut Page, partial: &PartialMatch) {
     if partial.last.ranges.is_empty() | (partial.last == partial.next) {
         return;

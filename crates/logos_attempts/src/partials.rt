@@ -18,7 +18,7 @@ pub struct PartialMatch {
     pub end: usize,
     /// The bytes that continue the prefix, and the bytes before which a match ends.
     pub next: ByteClass,
-    /// The bytes after which a match ends if the input ends after the byte.
+    /// The bytes that complete a match if the input ends after them.
     pub last: ByteClass,
     /// Whether a match ends at the end of the prefix if the input ends at this point.
     pub may_end: bool,
@@ -45,8 +45,8 @@ struct Edge {
     target: usize,
 }
 
-/// Returns the partial match of each leaf that has one from the byte offset `from` of an input on,
-/// in the order of the leaves.
+/// Returns the partial matches from the byte offset `from` of an input on, at most one for each
+/// leaf, in the order of the leaves.
 ///
 /// # Errors
 ///
@@ -79,8 +79,8 @@ fn walk_of(alloc: Global, dfa: &Dfa, input: &[u8], from: usize) -> Result<Walk, 
     Ok(walk)
 }
 
-/// Returns for each state the byte offset at which the longest run that begins at `from` and leads
-/// to the state ends. The offset is 0 if no run leads to the state.
+/// Returns for each state the byte offset of the end of the longest prefix that begins at `from`
+/// and leads to the state, or 0 if no prefix leads to the state.
 fn ends_of(alloc: Global, dfa: &Dfa, input: &[u8], from: usize) -> Result<Vec<usize>, AllocError> {
     let mut ends = vec![in alloc; 0; state_count(dfa)]?;
     let mut state = dfa.start().index();
@@ -117,7 +117,7 @@ fn lists_at_end(dfa: &Dfa, state: usize, leaf: usize) -> bool {
     lists(dfa, end_at(dfa, state) as usize, leaf)
 }
 
-/// Sets the end of the longest prefix that leads to `state` to `end`. Does nothing if the state
+/// Records `end` as the end of the longest prefix that leads to `state`. Does nothing if the state
 /// does not exist.
 fn set_end(ends: &mut Vec<usize>, state: usize, end: usize) {
     if state < ends.len() {
@@ -308,8 +308,8 @@ fn furthest(walk: &Walk, open: &[bool]) -> Option<usize> {
     best
 }
 
-/// Returns `state` if it is open and a longer prefix leads to it than to `best`, and `best`
-/// otherwise. If `best` is `None`, any prefix is longer.
+/// Returns `state` if it is open and a longer prefix leads to `state` than to `best`. Returns
+/// `best` otherwise. If `best` is `None`, any prefix is longer.
 fn later(walk: &Walk, open: &[bool], best: Option<usize>, state: usize) -> Option<usize> {
     let least = match best {
         Some(best) => end_of(walk, best),

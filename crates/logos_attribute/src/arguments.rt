@@ -1,5 +1,5 @@
-//! Reads the values in an attribute's argument one after another. `AttributeParser::parsed` is part
-//! of the public interface, but in this repository only tests call it.
+//! Reads the values in the arguments of an attribute one after another. `AttributeParser::parsed`
+//! is part of the public interface, but in this repository only tests call it.
 
 ghost use Rattle.std.specs.Prelude.{◌≡◌, ◌≢◌, List, Option, None, IfOk, OnOk, OnErr, MatchOption, option_map};
 ghost use Rattle.logos_attribute.specs.Imports.{result_ok, Fault, TokenList, none, run_span, tokens_of, type_tree, ReadsValue, literal_view, literal_report, up_to_comma, after_comma, pieces, IsReport};
@@ -20,11 +20,12 @@ pub struct Reported;
 
 /// A type whose values can be read from a run of tokens.
 pub trait FromRun<'s>: Sized {
-    /// The run is read as this value, and the first list of faults becomes the second.
+    /// The relation between a run, the value that is read from the run, and the lists of faults
+    /// before and after reading.
     ghost is_read: { TokenList → Option Self → List Fault → List Fault → Type 0 };
 
-    /// Reads the whole of `run` as a value. If `run` is not a value of this type, reports the run
-    /// and returns `None`. An empty run that is read as a literal is not reported.
+    /// Reads all tokens of `run` as one value. If `run` is not a value of this type, reports the
+    /// run and returns `None`. An empty run is not reported if the type is `Literal`.
     ///
     /// # Errors
     ///

@@ -11,7 +11,7 @@ use logos_token::token::{Ident, Span, TokenTree, Tokens};
 use logos_token::util::is_punct;
 use std::alloc::Global;
 
-/// A callback, as views of its tokens.
+/// A callback whose tokens have not been copied from the source.
 #[derive(Clone, Copy)]
 enum CallbackRun<'t, 's> {
     /// The tokens that name a function.
@@ -46,8 +46,9 @@ fn body_in<'t, 's>(
     }
 }
 
-/// Returns the closure with the parameter `arg`. The body is after the `|` with which `tokens` must
-/// begin. Returns `Body` if there are no tokens, and `Closure` if the first token is not a `|`.
+/// Returns the closure with the parameter `arg` and the body that follows the `|` at the beginning
+/// of `tokens`. Returns `Body` if there are no tokens, and `Closure` if the first token is not a
+/// `|`.
 fn bar_in<'t, 's>(
     arg: Ident<'s>,
     tokens: Tokens<'t, 's>,
@@ -62,8 +63,8 @@ fn bar_in<'t, 's>(
     }
 }
 
-/// Returns the closure in `tokens`, which begin with the parameter, or the reason why they are not
-/// a closure.
+/// Returns the closure whose parameter is the first token of `tokens`, or the reason why `tokens`
+/// are not a closure.
 fn parameter_in<'t, 's>(tokens: Tokens<'t, 's>) -> Result<CallbackRun<'t, 's>, CallbackFault>
     ensures { (span : Span) → read_view span result ≡ parameter_in span (tokens_of tokens.entry) }
 {
@@ -120,7 +121,7 @@ fn report_body(errors: &mut Errors, span: Span) -> Result<(), Memory>
     Ok(())
 }
 
-/// Reports `cause`, the reason why the run at `span` is not a callback.
+/// Reports `cause` as the reason why the run at `span` is not a callback.
 fn report_callback(errors: &mut Errors, cause: CallbackFault, span: Span) -> Result<(), Memory>
     ensures ok { OnOk result (AddsFault (callback_fault span cause) errors.old errors.new) }
     ensures unreported { OnErr result (errors.new ≡ errors.old) }
@@ -157,8 +158,8 @@ pub fn read_callback<'s>(
     }
 }
 
-/// Reports the second callback at `span`, together with `name`, the name before it. Then reports
-/// the first callback, `former`. After an error, the faults are unchanged.
+/// Reports the second callback at `span`, with the span of the preceding identifier `name`. Then
+/// reports the first callback, `former`. After an error, the faults are unchanged.
 fn report_again(
     errors: &mut Errors,
     name: Ident<'_>,
@@ -185,7 +186,7 @@ fn report_again(
     errors.append(found)
 }
 
-/// Reports `cause`, the reason why the run at `span` is not a callback. Then reports that the run
+/// Reports `cause` as the reason why the run at `span` is not a callback. Then reports that the run
 /// is not a valid value of `callback = ..`. After an error, the faults are unchanged.
 fn report_no_callback(errors: &mut Errors, cause: CallbackFault, span: Span) -> Result<(), Memory>
     ensures ok { OnOk result (errors.new
@@ -199,8 +200,8 @@ fn report_no_callback(errors: &mut Errors, cause: CallbackFault, span: Span) -> 
 }
 
 /// Sets `callback` to the callback that `tokens` spell. `tokens` are the value of `callback = ..`,
-/// and `name` is the identifier `callback`. If a callback is already set, reports and replaces it.
-/// If the run is not a callback, reports the reason and sets nothing.
+/// and `name` is the identifier `callback`. If a callback is already set, reports both callbacks
+/// and replaces the first. If the run is not a callback, reports the reason and sets nothing.
 ///
 /// # Errors
 ///

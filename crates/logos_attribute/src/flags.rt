@@ -10,8 +10,8 @@ use logos_token::token::{Ident, TokenTree, Tokens, print};
 use logos_token::util::{is_punct, push_escaped};
 use std::alloc::Global;
 
-/// Returns the printed text of `tree`, the first tree of `tokens`. `rest` contains the tokens after
-/// `tree`.
+/// Returns the printed text of `tree`, the first token of `tokens`. `rest` contains the tokens
+/// after `tree`.
 fn first_printed(
     alloc: Global,
     tokens: Tokens<'_, '_>,
@@ -25,7 +25,7 @@ fn first_printed(
     Ok(text)
 }
 
-/// Reports that `tree`, the first tree of `tokens`, is not the expected comma. `rest` contains the
+/// Reports that `tree`, the first token of `tokens`, is not the expected comma. `rest` contains the
 /// tokens after `tree`.
 fn report_no_comma(
     tokens: Tokens<'_, '_>,
@@ -45,7 +45,7 @@ fn report_no_comma(
     Ok(())
 }
 
-/// Reports that the flag `flag`, which is `ascii_case`, is no longer supported.
+/// Reports that the flag `ascii_case` is no longer supported. `flag` is the identifier of the flag.
 fn report_ascii(flag: Ident<'_>, errors: &mut Errors) -> Result<(), Memory>
     ensures { OnOk result
         (AddsFault (ignore_ascii (ident_slice flag.entry)) errors.old errors.new) }
@@ -74,7 +74,7 @@ fn report_other(flag: Ident<'_>, errors: &mut Errors) -> Result<(), Memory>
     )
 }
 
-/// Reports that `name`, the identifier `ignore`, has no valid flag.
+/// Reports that no valid flag follows `name`, which is the identifier `ignore`.
 fn report_none(name: Ident<'_>, errors: &mut Errors) -> Result<(), Memory>
     ensures { OnOk result
         (AddsFault (ignore_empty (ident_slice name.entry)) errors.old errors.new) }
@@ -106,9 +106,11 @@ fn after_flag<'t, 's>(
     Ok(None)
 }
 
-/// Returns the tokens after the flag `case` if `tokens` begin with it. Otherwise reports the fault,
-/// if there is one, and returns `None`, which ends the reading of flags. The absence of tokens is a
-/// fault unless `found` is `true`, that is, unless an earlier flag was found.
+/// Returns the tokens after the flag `case`, or `None` if `tokens` do not begin with this flag.
+///
+/// Reports the first token if it is an identifier other than `case`. Reports that `name` has no
+/// valid flag if the first token is not an identifier, or if there are no tokens and `found` is
+/// `false`. `found` states whether an earlier flag was found.
 fn read_case<'t, 's>(
     name: Ident<'s>,
     found: bool,
@@ -166,8 +168,8 @@ fn set_flags<'s>(
 }
 
 /// Sets `ignore_case` if `tokens` begin with the flag `case`, and reports the first fault among the
-/// flags. `tokens` are the group after `ignore`, and `name` is the identifier `ignore`. A flag
-/// before a fault remains set.
+/// flags. `tokens` are the contents of the group after `ignore`, and `name` is the identifier
+/// `ignore`. A flag before a fault remains set.
 ///
 /// # Errors
 ///

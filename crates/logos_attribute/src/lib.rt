@@ -1,5 +1,5 @@
-//! Splits the arguments of attributes on an enum and its variants into pieces, and reads the values
-//! of the pieces. `logos_definition` calls the readers.
+//! Splits the contents of attributes on an enum and its variants into arguments, and reads the
+//! values of the arguments. `logos_definition` calls the readers.
 
 #![tactic(auto)]
 

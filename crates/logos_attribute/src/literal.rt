@@ -1,4 +1,4 @@
-//! Reads strings and byte strings in an attribute's argument. The readers of definitions, of
+//! Reads strings and byte strings in the arguments of an attribute. The readers of definitions, of
 //! subpatterns and of the path of `export_dir` call these functions.
 
 ghost use Rattle.std.specs.Prelude.{◌≡◌, OnOk, OnErr, IfOk, option_map};
@@ -52,8 +52,8 @@ fn text_in<'s>(alloc: Global, token: token::Literal<'s>) -> Result<Option<Litera
     Ok(Literal::read(alloc, &token)?)
 }
 
-/// Reads the literal `token` as a string or byte string. If `token` is neither, reports it and
-/// returns `None`.
+/// Reads the literal `token` as a string or byte string. If `token` is neither, reports the literal
+/// and returns `None`.
 ///
 /// # Errors
 ///

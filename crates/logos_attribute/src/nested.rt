@@ -1,5 +1,5 @@
-//! Splits the argument of an attribute into pieces. The pieces are views of the argument's tokens,
-//! so nothing is copied. `logos_definition` reads the pieces one by one.
+//! Splits the tokens in an attribute into arguments without copying the tokens. `logos_definition`
+//! reads the arguments one by one.
 
 ghost use Rattle.std.specs.Prelude.{◌≡◌, MatchOption, [], ◌≢◌};
 ghost use Rattle.logos_attribute.specs.Views.{Token, TokenList, none, also, append, rest_of, tokens_of, tree_of, ident_slice, literal_slice, up_to_comma, after_comma, pieces, after_name, after_group, after_keyword, through_comma, without_comma, rest_after_name, rest_after_piece, rest_after_group, name_token, named, assigned, beside, keyed, unnamed, unexpected, first_run, after_mark, item_count, Cuts, IsSplit, piece_of, pieces_left, rest_after, YieldsNext};
@@ -7,7 +7,7 @@ ghost use Rattle.logos_attribute.specs.Views.{Token, TokenList, none, also, appe
 use logos_token::token::{Ident, Literal, TokenTree, Tokens};
 use logos_token::util::is_punct;
 
-/// The tokens of a piece after its name.
+/// The tokens of an argument after its name.
 #[derive(Clone, Copy)]
 pub enum NestedValue<'t, 's> {
     /// The tokens after the `=` of `name = ..`.
@@ -21,11 +21,11 @@ pub enum NestedValue<'t, 's> {
     KeywordAssign(Ident<'s>, Tokens<'t, 's>),
 }
 
-/// A piece of an attribute's argument, as a view of its tokens.
+/// An argument of an attribute. Its tokens are not copied.
 #[derive(Clone, Copy)]
 pub enum Nested<'t, 's> {
-    /// Tokens that do not begin with a name, a name alone, or a name that is followed by a
-    /// documentation comment or by punctuation other than `=`.
+    /// A name alone, a name that is followed by a documentation comment or by punctuation other
+    /// than `=`, or tokens that do not begin with a name.
     Unnamed(Tokens<'t, 's>),
     /// A name and its value.
     Named(Ident<'s>, NestedValue<'t, 's>),
@@ -33,16 +33,17 @@ pub enum Nested<'t, 's> {
     Unexpected(Tokens<'t, 's>),
 }
 
-/// A parser that splits an attribute's argument into pieces at each lone comma. A comma is lone if
-/// it is not directly followed by punctuation.
+/// A parser that splits the tokens in an attribute into arguments at each lone comma. A comma is
+/// lone if it is not directly followed by punctuation.
 #[derive(Clone, Copy)]
 pub struct AttributeParser<'t, 's> {
     rest: Tokens<'t, 's>,
-    /// Whether the last piece was a name with a group, and no comma has been read after the group.
+    /// Whether the last argument was a name with a group, and no comma has been read after the
+    /// group.
     after_group: bool,
 }
 
-/// Returns the first tree of `tokens` and the trees after it, or `None` if `tokens` is empty.
+/// Returns the first token of `tokens` and the tokens after it, or `None` if `tokens` is empty.
 pub fn split<'t, 's>(tokens: Tokens<'t, 's>) -> Option<(TokenTree<'t, 's>, Tokens<'t, 's>)>
     ensures { MatchOption result
         (tokens_of tokens.entry ≡ none)
@@ -78,8 +79,8 @@ fn run_at<'t, 's>(tokens: Tokens<'t, 's>) -> (Tokens<'t, 's>, Tokens<'t, 's>)
     (tokens.before(end), end.rest())
 }
 
-/// Returns the run of the first tree and the trees up to the next lone comma, and the tokens after
-/// this comma. The first tree belongs to the run even if it is a comma.
+/// Returns the run up to the next lone comma after the first token, and the tokens after this
+/// comma. The first token belongs to the run even if it is a comma.
 fn run_from<'t, 's>(tokens: Tokens<'t, 's>) -> (Tokens<'t, 's>, Tokens<'t, 's>)
     ensures run { tokens_of result.0 ≡ first_run (tokens_of tokens.entry) }
     ensures after { tokens_of result.1 ≡ after_comma (rest_of (tokens_of tokens.entry)) }
@@ -88,7 +89,7 @@ fn run_from<'t, 's>(tokens: Tokens<'t, 's>) -> (Tokens<'t, 's>, Tokens<'t, 's>)
     (tokens.before(end), end.rest())
 }
 
-/// Returns a parser for the pieces of `tokens`.
+/// Returns a parser for the arguments in `tokens`.
 fn begin<'t, 's>(tokens: Tokens<'t, 's>) -> AttributeParser<'t, 's>
     ensures pieces { pieces_left result ≡ pieces (tokens_of tokens.entry) }
     ensures rest { result.rest ≡ tokens.entry }
@@ -99,8 +100,8 @@ fn begin<'t, 's>(tokens: Tokens<'t, 's>) -> AttributeParser<'t, 's>
     }
 }
 
-/// Reads the value at the front of `tokens`, which follow `name =`. Returns the piece, and a parser
-/// for the tokens after the comma that ends the value.
+/// Reads the value at the front of `tokens`, which follow `name =`. Returns the argument, and a
+/// parser for the tokens after the comma that ends the value.
 fn assigned_at<'t, 's>(
     name: Ident<'s>,
     tokens: Tokens<'t, 's>,
@@ -116,7 +117,7 @@ fn assigned_at<'t, 's>(
 }
 
 /// Reads the value at the front of `tokens`, which follow the names `keyword` and `name`. Returns
-/// the piece, and a parser for the tokens after the comma that ends the value.
+/// the argument, and a parser for the tokens after the comma that ends the value.
 fn keyed_at<'t, 's>(
     keyword: Ident<'s>,
     name: Ident<'s>,
@@ -136,8 +137,8 @@ fn keyed_at<'t, 's>(
     )
 }
 
-/// Returns the piece that consists of `name` and `literal`, and a parser for the tokens after the
-/// next lone comma in `tokens`. Skips the tokens before the comma.
+/// Returns the argument that consists of `name` and `literal`, and a parser for the tokens after
+/// the next lone comma in `tokens`. Skips the tokens before the comma.
 fn beside_at<'t, 's>(
     name: Ident<'s>,
     literal: Literal<'s>,
@@ -157,8 +158,8 @@ fn beside_at<'t, 's>(
     )
 }
 
-/// Reads unexpected tokens up to the next lone comma. Returns the tokens as a piece, and a parser
-/// for the tokens after the comma.
+/// Reads unexpected tokens up to the next lone comma. Returns the tokens as an argument, and a
+/// parser for the tokens after the comma.
 fn unexpected_at<'t, 's>(tokens: Tokens<'t, 's>) -> (Nested<'t, 's>, AttributeParser<'t, 's>)
     ensures { Cuts (through_comma (λ run. unexpected run) (tokens_of tokens.entry))
         (after_comma (tokens_of tokens.entry)) result.0 result.1 }
@@ -167,8 +168,8 @@ fn unexpected_at<'t, 's>(tokens: Tokens<'t, 's>) -> (Nested<'t, 's>, AttributePa
     (Nested::Unexpected(run), begin(rest))
 }
 
-/// Reads a tree of any form, and the tokens after it up to the next lone comma. Returns these
-/// tokens as a piece, and a parser for the tokens after the comma.
+/// Reads a token of any form, and the tokens after it up to the next lone comma. Returns these
+/// tokens as an argument, and a parser for the tokens after the comma.
 fn unnamed_at<'t, 's>(tokens: Tokens<'t, 's>) -> (Nested<'t, 's>, AttributeParser<'t, 's>)
     ensures { (first : Token) (rest : TokenList) → tokens_of tokens.entry ≡ also first rest →
         Cuts (through_comma (λ run. unnamed (also first run)) rest) (after_comma rest)
@@ -178,8 +179,8 @@ fn unnamed_at<'t, 's>(tokens: Tokens<'t, 's>) -> (Nested<'t, 's>, AttributeParse
     (Nested::Unnamed(run), begin(rest))
 }
 
-/// Reads `tokens`, which follow the names `keyword` and `name`. Returns the piece, and a parser for
-/// the tokens after the piece.
+/// Reads `tokens`, which follow the names `keyword` and `name`. Returns the argument, and a parser
+/// for the tokens after the argument.
 fn keyword_at<'t, 's>(
     keyword: Ident<'s>,
     name: Ident<'s>,
@@ -203,9 +204,9 @@ fn keyword_at<'t, 's>(
     unexpected_at(tokens)
 }
 
-/// Reads the piece at the front of `whole`, which consists of `name`, `tree` and `tokens`. `tree`
-/// is not a name, a literal or a group. Returns the piece, and a parser for the tokens after the
-/// piece.
+/// Reads the argument at the front of `whole`. The run `whole` consists of `name`, `tree` and
+/// `tokens`, and `tree` must not be a name, a literal or a group. Returns the argument, and a
+/// parser for the tokens after the argument.
 fn mark_at<'t, 's>(
     whole: Tokens<'t, 's>,
     name: Ident<'s>,
@@ -225,8 +226,8 @@ fn mark_at<'t, 's>(
     unnamed_at(whole)
 }
 
-/// Returns a parser for the pieces in `tokens`, which follow a name and a group. Removes a comma at
-/// the front at once, so that `AttributeParser::run` begins after the comma.
+/// Returns a parser for the arguments in `tokens`, which follow a name and a group. If `tokens`
+/// begin with a comma, removes the comma, so that `AttributeParser::run` begins after it.
 fn end_group<'t, 's>(tokens: Tokens<'t, 's>) -> AttributeParser<'t, 's>
     ensures pieces { pieces_left result ≡ after_group (tokens_of tokens.entry) }
     ensures rest { tokens_of result.rest ≡ without_comma (tokens_of tokens.entry) }
@@ -240,8 +241,8 @@ fn end_group<'t, 's>(tokens: Tokens<'t, 's>) -> AttributeParser<'t, 's>
     }
 }
 
-/// Reads the piece at the front of `whole`, which consists of `name` and `tokens`. Returns the
-/// piece, and a parser for the tokens after the piece.
+/// Reads the argument at the front of `whole`. The run `whole` consists of `name` and `tokens`.
+/// Returns the argument, and a parser for the tokens after the argument.
 fn name_at<'t, 's>(
     whole: Tokens<'t, 's>,
     name: Ident<'s>,
@@ -271,8 +272,8 @@ fn name_at<'t, 's>(
     }
 }
 
-/// Returns the piece at the front of `tokens`, and a parser for the tokens after the piece. Returns
-/// `None` if `tokens` is empty.
+/// Returns the argument at the front of `tokens`, and a parser for the tokens after the argument.
+/// Returns `None` if `tokens` is empty.
 fn piece_at<'t, 's>(tokens: Tokens<'t, 's>) -> Option<(Nested<'t, 's>, AttributeParser<'t, 's>)>
     ensures { MatchOption result
         (pieces (tokens_of tokens.entry) ≡ [])
@@ -290,8 +291,8 @@ fn piece_at<'t, 's>(tokens: Tokens<'t, 's>) -> Option<(Nested<'t, 's>, Attribute
     }
 }
 
-/// Returns the piece that follows a name and a group, and a parser for the tokens after the piece.
-/// Returns `None` if no piece follows.
+/// Returns the argument that follows a name and a group, and a parser for the tokens after the
+/// argument. Returns `None` if no argument follows.
 fn piece_after_group<'t, 's>(
     tokens: Tokens<'t, 's>,
 ) -> Option<(Nested<'t, 's>, AttributeParser<'t, 's>)>
@@ -309,7 +310,7 @@ fn piece_after_group<'t, 's>(
 }
 
 impl<'t, 's> AttributeParser<'t, 's> {
-    /// Returns a parser for the pieces of `tokens`.
+    /// Returns a parser for the arguments in `tokens`.
     pub fn new(tokens: Tokens<'t, 's>) -> AttributeParser<'t, 's>
         ensures pieces { pieces_left result ≡ pieces (tokens_of tokens.entry) }
         ensures rest { tokens_of result.rest ≡ tokens_of tokens.entry }
@@ -335,8 +336,8 @@ impl<'t, 's> AttributeParser<'t, 's> {
         Some(run)
     }
 
-    /// Returns the next piece, and a parser for the pieces after it. Returns `None` if no piece is
-    /// left.
+    /// Returns the next argument, and a parser for the tokens after the argument. Returns `None` if
+    /// no argument is left.
     fn read(self) -> Option<(Nested<'t, 's>, AttributeParser<'t, 's>)>
         ensures { MatchOption result
             (pieces_left self.entry ≡ [])
@@ -356,8 +357,8 @@ impl<'t, 's> Iterator for AttributeParser<'t, 's> {
 
     ghost remaining = { item_count pieces_left };
 
-    /// Removes and returns the next piece. Also removes the comma that ends the piece, so that
-    /// `run` and `parsed` continue after the comma. If the result is `None`, the parser is
+    /// Removes and returns the next argument. Also removes the comma that ends the argument, so
+    /// that `run` and `parsed` continue after the comma. If the result is `None`, the parser is
     /// unchanged.
     fn next(&mut self) -> Option<Nested<'t, 's>> {
         let (nested, rest) = self.read()?;

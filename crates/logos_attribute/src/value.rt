@@ -1,5 +1,5 @@
-//! Reads numbers and booleans in an attribute's argument. The readers of definitions and options
-//! call `number_in` and `boolean_in`.
+//! Reads numbers and booleans in the arguments of an attribute. The readers of definitions and
+//! options call `number_in` and `boolean_in`.
 
 ghost use Rattle.std.specs.Prelude.{◌≡◌};
 ghost use Rattle.logos_attribute.specs.Imports.{all_ascii_digits, tokens_of, decimal, number_in, boolean_named, boolean_in};

@@ -1,5 +1,5 @@
-//! Finds the bytes whose steps on a tree differ from the steps of the next smaller byte. One pass
-//! over the tree begins at the positions that read the last byte. `byte_equivalence` and
+//! Finds the bytes whose steps on a tree differ from those of the next smaller byte, in one pass
+//! over the tree that begins at the positions that read the last byte. `byte_equivalence` and
 //! `tree_steps::construction` call `mark_tree`.
 
 ghost use Rattle.std.specs.Prelude.{◌≡◌, ◌<◌, ◌^◌, ◌+◌, ◌*◌, ◌==◌, ℕ, IsTrue, IsFalse, length, slice_index};

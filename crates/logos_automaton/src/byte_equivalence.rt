@@ -84,8 +84,8 @@ pub fn add_bytes(bytes: &[u8], first: &mut [bool; 256])
     }
 }
 
-/// Returns `kinds` if `looks` is `true`, and an array in which no flag is set otherwise. `looks` is
-/// `true` if some tree has a look-around assertion.
+/// Returns `kinds` if `looks` is `true`, and otherwise an array in which no flag is `true`. `looks`
+/// is `true` if at least one tree has a look-around assertion.
 pub fn first_by_kind(looks: bool, kinds: &[bool; 256]) -> [bool; 256]
     requires kinds { AreKindBytes kinds.now }
     ensures { (x : ℕ) → x + 1 < 256 → slice_index_or result (x + 1) false ≡ false →

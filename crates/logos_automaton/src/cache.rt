@@ -1,5 +1,5 @@
-//! Caches the steps of trees for each state of a tree. `row` looks up these steps while it fills
-//! the row of a state of the automaton.
+//! Caches the steps from each state of each tree. `row` looks up these steps while it fills the row
+//! of a state of the automaton.
 
 ghost use Rattle.std.specs.Prelude.{◌≡◌, ◌∷◌, ◌++◌, ◌+◌, ◌<◌, ◌≤◌, ◌↔◌, List, ℕ, [], false, IfOk, IsTrue, OnOk, length, slice_index, slice_index_or, if◌then◌else◌};
 ghost use Rattle.logos_automaton.specs.Views.{Node, kind_of_byte, Has, IsRising, state_of, Trees, AreKindBytes, IsPrepared, IsCacheOf, AreAlmostCached, AreCached, AreLive, HasSteps, IsTreeState, Keeps, state_after, step_of, tree_view};
@@ -36,7 +36,7 @@ pub struct LiveTree {
     pub steps: usize,
 }
 
-/// Returns the positions in `marks` from `low` up to but not including `high`.
+/// Returns the positions in `marks` that are in `low..high`.
 ///
 /// # Errors
 ///
@@ -110,7 +110,8 @@ impl StepCache {
         self.steps.clear();
     }
 
-    /// Computes and stores the steps from the last state, unless they are stored already.
+    /// Computes and stores the steps from the last state in `states`, unless they are stored
+    /// already.
     ///
     /// # Errors
     ///
@@ -190,11 +191,11 @@ pub struct StateSteps<'c> {
     pub lives: &'c [LiveTree],
     /// The steps in the cache, to which the indexes in `lives` refer.
     pub steps: &'c [TreeSteps],
-    /// Whether some tree has a look-around assertion.
+    /// Whether at least one tree has a look-around assertion.
     pub looks: bool,
 }
 
-/// Appends to `positions` the positions of a live tree that read `byte`. Returns whether the tree
+/// Appends the positions at which a live tree reads `byte` to `positions`. Returns whether the tree
 /// can be left before the byte.
 ///
 /// # Errors
@@ -271,8 +272,8 @@ impl StateSteps<'_> {
         })
     }
 
-    /// Returns an array in which the flag of a byte is `true` if the byte can lead to another state
-    /// than the next smaller byte. `kinds` contains the flags that `kind_bytes` returns.
+    /// Returns an array in which the flag of a byte is `true` if the byte can lead to a different
+    /// state than the next smaller byte. `kinds` contains the flags that `kind_bytes` returns.
     pub fn changes(self, kinds: &[bool; 256]) -> [bool; 256]
         requires kinds { AreKindBytes kinds.now }
         ensures { (x : ℕ) → x + 1 < 256 → slice_index_or result (x + 1) false ≡ false →

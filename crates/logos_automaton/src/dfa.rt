@@ -1,5 +1,5 @@
-//! The automaton of rules. Its states record each match one byte late. `logos_graph` reduces the
-//! automaton to a graph.
+//! Defines the automaton of rules. Its states record each match one byte late. `logos_graph`
+//! reduces the automaton to a graph.
 
 ghost use Rattle.std.specs.Prelude.{◌≡◌, ◌<◌, length, vec_len};
 ghost use Rattle.logos_automaton.specs.Imports.{AreReachable, AreByteRows, LeadWithin, EndWithin};

@@ -10,12 +10,12 @@ use std::alloc::{AllocError, AllocFailed};
 /// A fault of the leaves of a lexer.
 #[derive(Debug, Drop)]
 pub enum GraphError {
-    /// Some pattern can have a look-around assertion before its first byte.
+    /// At least one pattern can have a look-around assertion before its first byte.
     NoUniversalStart,
     /// The pattern of this leaf can match the empty string.
     EmptyMatch(LeafId),
-    /// These leaves have the highest priority among all leaves that match some text. The list has
-    /// at least two leaves, in ascending order.
+    /// There is a text for which these leaves are the matching leaves of highest priority. The list
+    /// has at least two leaves, in ascending order.
     Disambiguation(Vec<LeafId>),
 }
 

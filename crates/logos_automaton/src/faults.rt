@@ -113,8 +113,7 @@ fn add_set(sets: &mut BTreeSet<Vec<usize>>, set: Vec<usize>) -> Result<(), Alloc
     Ok(())
 }
 
-/// Returns the sets of leaves that share the highest priority in a state. A state whose highest
-/// priority belongs to a single leaf adds no set.
+/// Returns each set of at least two leaves that share the highest priority in a state.
 ///
 /// # Errors
 ///
@@ -150,7 +149,7 @@ fn leaf_ids(alloc: Global, set: &[usize]) -> Result<Vec<LeafId>, AllocError>
     Ok(ids)
 }
 
-/// Returns the sets of leaves in ascending order.
+/// Returns the sets of leaves in `sets`, in ascending order.
 ///
 /// # Errors
 ///

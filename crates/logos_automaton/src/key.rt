@@ -25,7 +25,7 @@ pub struct Key {
 }
 
 /// Returns the kind of `byte`, which is read at `positions`. Returns `Unseen` if `positions` is
-/// empty or `looks` is `false`. `looks` is `true` if some tree has a look-around assertion.
+/// empty or `looks` is `false`. `looks` is `true` if at least one tree has a look-around assertion.
 pub fn next_kind(looks: bool, positions: &[usize], byte: u8) -> ByteKind
     ensures { result ≡ keys.next_kind looks positions.now byte }
 {
@@ -114,8 +114,8 @@ pub fn end_key(trees: &Trees<'_>, key: &Key) -> Result<Key, AllocError>
     })
 }
 
-/// Returns the key of the state after the end of the input in which the trees in `matches` match
-/// all bytes.
+/// Returns the key of a state after the end of the input. `matches` contains the numbers of the
+/// trees that match all bytes.
 ///
 /// # Errors
 ///

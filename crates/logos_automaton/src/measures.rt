@@ -1,5 +1,6 @@
-//! Measures trees without allocation. `rule` and `faults` determine whether a tree can match the
-//! empty string or has a look-around assertion. `logos_graph` computes the size of trees.
+//! Functions that measure trees without allocation. `rule` and `faults` call the functions that
+//! return whether a tree can match the empty string or has a look-around assertion. `logos_graph`
+//! calls the functions that compute the size of trees.
 
 ghost use Rattle.std.specs.Prelude.{◌≡◌, ℕ, ◌+◌, ◌*◌, ◌^◌, ◌≤◌, ◌↔◌, IsTrue, length, max, map};
 ghost use Rattle.logos_automaton.specs.Imports.{class_tree, tree_of, trees, IsWithinLimit, size, sizes};

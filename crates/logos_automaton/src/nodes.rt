@@ -9,7 +9,7 @@ use logos_positions::node::Node;
 use logos_positions::preparation::prepare;
 use std::alloc::{AllocError, Global};
 
-/// Returns the prepared trees of `rules`. The size of all trees together must be within the limit.
+/// Returns the prepared trees of `rules`. The total size of all trees must be at most 1,048,576.
 ///
 /// # Errors
 ///

@@ -14,14 +14,15 @@ use std::alloc::AllocError;
 /// The targets of a state, indexed by byte.
 pub type Row = [u16; 256];
 
-/// The number of symbols, which are all bytes and the end of the input.
+/// The number of symbols: the 256 bytes and the end of the input.
 pub const SYMBOLS: usize = 257;
 
 /// The targets of a state, indexed by byte, while the automaton is built. At that time, the number
 /// of states can exceed the limit.
 pub type DraftRow = [u32; 256];
 
-/// Returns the target of the state `state` for `byte`. Adds the target to `states` if it is new.
+/// Returns the target of the state with the number `state` for `byte`. Adds the target to `states`
+/// if it is new.
 ///
 /// # Errors
 ///
@@ -50,8 +51,8 @@ fn target_of(
     Ok(target as u32)
 }
 
-/// Returns the target of the state `state` for the end of the input. Adds the target to `states` if
-/// it is new.
+/// Returns the target of the state with the number `state` for the end of the input. Adds the
+/// target to `states` if it is new.
 ///
 /// # Errors
 ///
@@ -74,8 +75,8 @@ fn end_of(trees: &Trees<'_>, states: &mut IndexSet<Key>, state: usize) -> Result
     Ok(target as u32)
 }
 
-/// Returns the target of a state for the end of the input if no tree has a look-around assertion.
-/// Adds the target to `states` if it is new.
+/// Returns the target of the state with the number `state` for the end of the input if no tree has
+/// a look-around assertion. Adds the target to `states` if it is new.
 ///
 /// `by_zero` is the target of the state for byte 0. Without look-around assertions, a leaf matches
 /// before the end if and only if it matches before a byte. The target for the end thus has the
@@ -107,8 +108,8 @@ fn end_as_by_zero(
     Ok(target as u32)
 }
 
-/// Returns the target of the state `state` for the end of the input. Adds the target to `states` if
-/// it is new. `by_zero` is the target of the state for byte 0.
+/// Returns the target of the state with the number `state` for the end of the input. Adds the
+/// target to `states` if it is new. `by_zero` is the target of the state for byte 0.
 ///
 /// # Errors
 ///
@@ -135,8 +136,8 @@ pub fn end_after(
     end_as_by_zero(trees, states, state, by_zero)
 }
 
-/// Returns the target in `known` if there is one. Otherwise computes the target of the state
-/// `state` for `byte`, adds the target to `states` if it is new, and returns the target.
+/// Returns the target in `known` if there is one. Otherwise computes the target of the state with
+/// the number `state` for `byte`, adds the target to `states` if it is new, and returns the target.
 ///
 /// # Errors
 ///
@@ -166,8 +167,8 @@ fn next_target(
     }
 }
 
-/// Returns an array in which the flag of a byte is `true` if the state `state` can distinguish the
-/// byte from the next smaller byte.
+/// Returns an array in which the flag of a byte is `true` if the state with the number `state` can
+/// distinguish the byte from the next smaller byte.
 fn first_in(trees: &Trees<'_>, states: &IndexSet<Key>, state: usize) -> [bool; 256]
     requires prepared { IsPrepared trees.now }
     requires within { state < length states.now.keys }
@@ -180,8 +181,8 @@ fn first_in(trees: &Trees<'_>, states: &IndexSet<Key>, state: usize) -> [bool; 2
     }
 }
 
-/// Returns the targets of the state `state` for all bytes, computed without the cache of steps.
-/// Adds the new targets to `states`.
+/// Returns the targets of the state with the number `state` for all bytes, computed without the
+/// cache of steps. Adds the new targets to `states`.
 ///
 /// # Errors
 ///
@@ -294,8 +295,8 @@ fn row_by(
     Ok(row)
 }
 
-/// Returns the live trees of the state `state`, in ascending order. The state must not be the
-/// start.
+/// Returns the live trees of the state with the number `state`, in ascending order. The state must
+/// not be the start.
 ///
 /// # Errors
 ///
@@ -321,7 +322,7 @@ fn live_in(
     }
 }
 
-/// Returns whether the state `state` is the start.
+/// Returns whether the state with the number `state` is the start.
 fn is_start_at(states: &IndexSet<Key>, state: usize) -> bool
     requires within { state < length states.now.keys }
     ensures { IsFalse result → IsNotStart states.now.keys state }
@@ -332,7 +333,8 @@ fn is_start_at(states: &IndexSet<Key>, state: usize) -> bool
     }
 }
 
-/// Returns the targets of the state `state` for all bytes, and adds the new targets to `states`.
+/// Returns the targets of the state with the number `state` for all bytes, and adds the new targets
+/// to `states`.
 ///
 /// Does not store the steps from the start, which no other state shares because only the start
 /// enters the trees. If there is only one tree, stores no steps, because the states of the tree
@@ -374,7 +376,7 @@ pub fn row_of(
     row_by(steps, trees.kinds, states)
 }
 
-/// Returns `row` with entries of half the size. Each target must be less than 65,536.
+/// Returns `row` with 16-bit entries. Each target must be less than 65,536.
 pub fn narrowed(row: &DraftRow) -> Row
     requires { (byte : ℕ) → byte < 256 → slice_index row.now byte < 2 ^ 16 }
     ensures wide { length result ≡ 256 }

@@ -8,7 +8,7 @@ pub mod construction;
 use logos_positions::positions::look::ByteKind;
 use logos_positions::positions::tree::TreeStep;
 
-/// A state of one tree that is not entered. The state determines the steps of the tree.
+/// A state of one tree, while the tree is not entered. The state determines the steps of the tree.
 #[derive(PartialEq, Eq, Hash, Drop)]
 pub struct TreeState {
     /// The number of the tree.

@@ -1,5 +1,5 @@
-//! Defines the input of the construction of states. `dfa::builder` makes a value of `Trees` before
-//! its loop.
+//! Defines `Trees`, the input of the construction of states. `dfa::builder` makes a value of this
+//! type before its loop.
 
 ghost use Rattle.std.specs.Prelude.{◌^◌, ◌<◌, IfOk, map};
 ghost use Rattle.logos_automaton.specs.Imports.{AreMeasured, AreStarts, core_of, width_of};
@@ -17,8 +17,8 @@ pub struct Trees<'n> {
     pub nodes: &'n [Node],
     /// The first position of each tree, followed by the position after the last tree.
     pub starts: &'n [usize],
-    /// Whether some tree has a look-around assertion. Only then do states store the kind of the
-    /// last byte.
+    /// Whether at least one tree has a look-around assertion. Only then do states store the kind of
+    /// the last byte.
     pub looks: bool,
     /// The flags of all bytes, each `true` if look-around assertions can distinguish the byte from
     /// the next smaller byte.

@@ -1,5 +1,5 @@
 //! Sets of bytes, and comparisons that test whether a byte is in a set. Graphs label edges with
-//! byte classes, and generators turn classes into comparisons.
+//! byte classes, and generators turn these classes into comparisons.
 
 ghost use Rattle.std.specs.Prelude.{◌≡◌, ℕ, ◌<◌, ◌≤◌, ◌↔◌, ◌||◌, not, IsTrue, IfOk, OnOk, OnErr, false, [], ◌∷◌, length, map, drop, slice_index_or};
 ghost use Rattle.logos_byte_class.specs.Views.{is_in, bounds, ranges_of, has_byte, AreSeparated, comparison_of, compares, some_compares, joined, operations};
@@ -59,7 +59,7 @@ impl ByteClass {
 
 impl ByteClass {
     /// Adds the bytes of `other` to the class. Afterwards, the ranges ascend with at least one byte
-    /// between any two ranges, regardless of their order before.
+    /// between any two ranges, whatever the order of the ranges was before.
     ///
     /// # Errors
     ///
@@ -91,7 +91,7 @@ impl ByteClass {
 
     /// Returns comparisons that hold for exactly the bytes of the class. Ranges with exactly one
     /// byte between them share a comparison, and the byte is an exception of this comparison. The
-    /// class must be separated, as tested by `is_separated`.
+    /// ranges of the class must be separated, as tested by `is_separated`.
     ///
     /// # Errors
     ///
@@ -115,8 +115,8 @@ impl ByteClass {
     }
 }
 
-/// Returns the first byte from `from` on whose flag in `table` is `wanted`, or 256 if there is
-/// none.
+/// Returns the first byte from `from` on whose flag in `table` is `wanted`, or 256 if there is no
+/// such byte.
 fn first_where(table: &[bool], from: usize, wanted: bool) -> usize
     requires long { length table.now ≡ 256 }
     requires within { from ≤ 256 }
@@ -134,7 +134,7 @@ fn first_where(table: &[bool], from: usize, wanted: bool) -> usize
     256
 }
 
-/// Returns the ranges of the bytes whose flags in `table` are set, in ascending order.
+/// Returns the ranges of the bytes whose flags in `table` are `true`, in ascending order.
 fn ranges_of_table(alloc: Global, table: &[bool]) -> Result<Vec<RangeInclusive<u8>>, AllocError>
     requires { length table.now ≡ 256 }
     ensures members { IfOk result (λ made. (b : ℕ) → b < 256 →
@@ -180,7 +180,7 @@ fn first_comparison(
     ))
 }
 
-/// A comparison that holds for the bytes of a range, except for some bytes of the range.
+/// A comparison that holds for the bytes of a range other than the exceptions.
 #[derive(Debug, Drop)]
 pub struct Comparisons {
     /// The range, which includes both of its ends.
@@ -203,9 +203,8 @@ impl Comparisons {
     }
 
     /// Returns the number of operations that test a byte. A range of a single byte counts as one
-    /// operation. For any other range, a start above 0 counts as one operation, and so does an end
-    /// below
-    /// 255. Each exception counts as one operation.
+    /// operation. For any other range, a start greater than 0 and an end less than 255 count as one
+    /// operation each. Each exception counts as one operation.
     pub fn count_ops(&self) -> usize
         ensures { result ≡ operations (comparison_of self.now) }
     {

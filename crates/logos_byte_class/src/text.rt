@@ -1,4 +1,5 @@
-//! Prints bytes and sets of bytes. State diagrams and generated code show classes in this form.
+//! The printed form of bytes and of sets of bytes. State diagrams and generated code show classes
+//! in this form.
 
 ghost use Rattle.std.specs.Prelude.{◌≡◌, ◌<◌, ◌≤◌, ◌↔◌, IsTrue, IsFalse, IfSome, Some, codes, map};
 ghost use Rattle.logos_byte_class.specs.Views.{letter_of, lower_digit, byte_text, range_text, next_ranges_text, class_text, bounds, ranges_of};
@@ -7,13 +8,14 @@ use crate::byte_class::ByteClass;
 use std::fmt;
 use std::ops::RangeInclusive;
 
-/// The number of ASCII characters. The characters below this number are ASCII.
+/// The number of ASCII characters. The code points of all ASCII characters are less than this
+/// number.
 const ASCII: u32 = 128;
 
 /// The control character DEL. It follows the greatest byte that prints as itself.
 const DELETE: u8 = 127;
 
-/// Returns the character after the `\` if `byte` prints as an escape with one character, and `None`
+/// Returns the character after the `\` if `byte` prints as a `\` and one character, and `None`
 /// otherwise.
 pub fn letter_of(byte: u8) -> Option<char>
     ensures is { result ≡ letter_of byte }
@@ -89,7 +91,7 @@ impl fmt::Display for RangeText {
     }
 }
 
-/// Ranges of bytes, displayed as their texts, each after a separator.
+/// Ranges of bytes, displayed as their texts. A separator precedes each text.
 #[derive(Clone, Copy)]
 struct NextRanges<'c> {
     ranges: &'c [RangeInclusive<u8>],

@@ -1,4 +1,4 @@
-//! Warns about probable mistakes in callbacks: tokens that a closure loses, tokens that exit the
+//! Warnings about probable mistakes in callbacks: tokens that a closure loses, tokens that exit the
 //! function around the closure, and tokens that were probably not meant as a callback. Used by
 //! `explanation`.
 
@@ -21,14 +21,14 @@ pub(crate) enum CallbackOwner {
     ErrorType,
 }
 
-/// The kind of a probable mistake in a callback.
+/// A kind of probable mistake in a callback.
 #[derive(Clone, Copy)]
 pub(crate) enum CallbackMistake {
     /// The callback is the name of an argument, such as `priority`, without a value.
     OptionName,
     /// The callback is neither the path of a function nor a closure.
     NoFunction,
-    /// The body of a closure ends before the argument that contains the closure.
+    /// The body of a closure ends before the end of the argument that contains the closure.
     Dropped,
     /// The body of a closure loses the brackets or parentheses around it.
     NoBrackets,
@@ -40,7 +40,7 @@ pub(crate) enum CallbackMistake {
     Question,
 }
 
-/// A mistake in a callback, with its span and a help.
+/// A mistake in a callback, with its span and its help text.
 #[derive(Clone, Copy)]
 struct FoundMistake {
     mistake: CallbackMistake,
@@ -48,8 +48,8 @@ struct FoundMistake {
     help: &'static str,
 }
 
-/// Appends the warnings about the callbacks of `leaves` to `warnings`, in order. `tokens` are the
-/// tokens of the source.
+/// Appends the warnings about the callbacks of `leaves` to `warnings`, in the order of the leaves.
+/// `tokens` are the tokens of the source.
 pub(crate) fn add_callbacks(
     alloc: Global,
     tokens: Tokens<'_, '_>,
@@ -74,8 +74,9 @@ pub(crate) fn add_callbacks(
     Ok(())
 }
 
-/// Returns the index of the first closure after `callback`. This is `next`, the index of the first
-/// closure from `callback` on, plus one if `callback` is a closure.
+/// Returns the index of the first closure after `callback`. `next` is the index of the first
+/// closure from `callback` on. The result is `next + 1` if `callback` is a closure, and `next`
+/// otherwise.
 fn after_callback(callback: Option<&Callback<'_>>, next: usize) -> usize {
     match callback {
         Some(Callback::Inline(_)) => next.saturating_add(1),
@@ -83,7 +84,7 @@ fn after_callback(callback: Option<&Callback<'_>>, next: usize) -> usize {
     }
 }
 
-/// Appends the warnings about the callback for errors to `warnings`, or nothing if `callback` is
+/// Appends the warnings about the error callback to `warnings`. Appends nothing if `callback` is
 /// `None`. `tokens` are the tokens of the source.
 pub(crate) fn add_error_callback(
     alloc: Global,
@@ -106,9 +107,9 @@ pub(crate) fn add_error_callback(
     )
 }
 
-/// Appends the warnings about the callback of `owner` to `warnings`, or nothing if `callback` is
-/// `None`. If the callback is a closure, `run` begins with the closure, or is `None` if the closure
-/// was not found.
+/// Appends the warnings about the callback of `owner` to `warnings`. Appends nothing if `callback`
+/// is `None`. If the callback is a closure, `run` begins with the closure, or is `None` if the
+/// closure was not found.
 fn add_callback(
     owner: CallbackOwner,
     callback: Option<&Callback<'_>>,
@@ -124,7 +125,8 @@ fn add_callback(
     }
 }
 
-/// Appends the warning about the mistake `found` to `warnings`, or nothing if `found` is `None`.
+/// Appends the warning about the mistake `found` to `warnings`. Appends nothing if `found` is
+/// `None`.
 fn add_found(found: Option<FoundMistake>, warnings: &mut Vec<Warning>) -> Result<(), Memory>
     ensures { OnOk result (AddsEach IsOfCallback warnings.old.items warnings.new.items) }
 {
@@ -164,8 +166,8 @@ fn callback_text(mistake: CallbackMistake) -> &'static str
 
 const PATH: &str = "write the path of a function, or a closure with one parameter, as `|lex| ..`";
 
-/// Returns the mistake in a callback of `owner` that is not a closure, if there is one. `label`
-/// contains the tokens of the callback.
+/// Returns the mistake in a callback of `owner`, or `None` if there is no mistake. The callback is
+/// not a closure, and `label` contains its tokens.
 fn label_mistake(owner: CallbackOwner, label: Tokens<'_, '_>) -> Option<FoundMistake> {
     let span = label.span();
     if names_option(label) {
@@ -185,8 +187,8 @@ fn label_mistake(owner: CallbackOwner, label: Tokens<'_, '_>) -> Option<FoundMis
     })
 }
 
-/// Returns the help for a callback of `owner` that is the name of an argument without a value.
-/// `label` contains the name.
+/// Returns the help text for a callback of `owner`, if the callback is only the name of an
+/// argument. `label` contains the name.
 fn help_for_option(owner: CallbackOwner, label: Tokens<'_, '_>) -> &'static str {
     match owner {
         CallbackOwner::Leaf => "write its value, as in `priority = 3` or `ignore(case)`",
@@ -194,8 +196,8 @@ fn help_for_option(owner: CallbackOwner, label: Tokens<'_, '_>) -> &'static str 
     }
 }
 
-/// Returns the help for a callback of `owner` that is neither a path nor a closure. `label`
-/// contains the tokens of the callback.
+/// Returns the help text for a callback of `owner`, if the callback is neither a path nor a
+/// closure. `label` contains the tokens of the callback.
 fn help_for_label(owner: CallbackOwner, label: Tokens<'_, '_>) -> &'static str {
     match owner {
         CallbackOwner::Leaf => help_for_leaf(label),
@@ -203,8 +205,9 @@ fn help_for_label(owner: CallbackOwner, label: Tokens<'_, '_>) -> &'static str {
     }
 }
 
-/// Returns the help for a callback of an error type that does not name a function. `label` contains
-/// the tokens of the callback. The only named argument of an error type is `callback`.
+/// Returns the help text for the callback of an error type, if the callback does not name a
+/// function. `label` contains the tokens of the callback. The only named argument of an error type
+/// is `callback`.
 fn help_for_error(label: Tokens<'_, '_>) -> &'static str {
     match label.first() {
         Some(TokenTree::Ident(name)) if name.text == "callback" => {
@@ -214,8 +217,8 @@ fn help_for_error(label: Tokens<'_, '_>) -> &'static str {
     }
 }
 
-/// Returns the help for a callback of a leaf that is neither a path nor a closure. The help depends
-/// on the first token of `label`, the tokens of the callback.
+/// Returns the help text for the callback of a leaf, if the callback is neither a path nor a
+/// closure. The text depends on the first token of `label`, the tokens of the callback.
 fn help_for_leaf(label: Tokens<'_, '_>) -> &'static str {
     match label.first() {
         Some(TokenTree::Ident(name)) if is_option(name.text) => {
@@ -239,8 +242,8 @@ fn names_option(label: Tokens<'_, '_>) -> bool {
     }
 }
 
-/// Returns whether `name` is the name of an argument of a pattern, or one of two names that are
-/// often mistaken for such a name: `ignore_case` and `ignore_ascii_case`.
+/// Returns whether `name` is the name of an argument of a pattern. Returns `true` also for
+/// `ignore_case` and `ignore_ascii_case`, which are often mistaken for such names.
 fn is_option(name: &str) -> bool {
     let is_argument = (name == "priority") | (name == "callback") | (name == "allow_greedy");
     is_argument | (name == "ignore") | (name == "ignore_case") | (name == "ignore_ascii_case")
@@ -278,9 +281,9 @@ fn is_path_part(tree: TokenTree<'_, '_>) -> bool {
     }
 }
 
-/// Appends the warnings about a closure to `warnings`, beginning with the warnings about tokens of
-/// the body that exit the function around the closure. `run` begins with the closure, or is `None`
-/// if the closure was not found.
+/// Appends the warnings about a closure to `warnings`. The warnings about tokens of the body that
+/// exit the function around the closure come first. `run` begins with the closure, or is `None` if
+/// the closure was not found.
 fn add_closure(
     closure: &InlineCallback<'_>,
     run: Option<Tokens<'_, '_>>,
@@ -292,8 +295,9 @@ fn add_closure(
     add_found(closure_mistake(closure.span.to, run), warnings)
 }
 
-/// Returns the mistake in the body of a closure, or `None` if there is no mistake or no run. `run`
-/// begins with the closure, which ends at the byte offset `to` in the source.
+/// Returns the mistake in the body of a closure, or `None` if there is no mistake or `run` is
+/// `None`. `run` begins with the closure, and the closure ends at the byte offset `to` in the
+/// source.
 fn closure_mistake(to: usize, run: Option<Tokens<'_, '_>>) -> Option<FoundMistake> {
     match run {
         Some(run) => body_mistake(to, after_bars(run)),
@@ -307,8 +311,8 @@ fn after_bars<'t, 's>(closure: Tokens<'t, 's>) -> Tokens<'t, 's> {
     closure.rest().rest().rest()
 }
 
-/// Returns the mistake in the body of a closure, if there is one. `body` begins with the body, and
-/// the closure ends at the byte offset `to` in the source.
+/// Returns the mistake in the body of a closure, or `None` if there is no mistake. `body` begins
+/// with the body, and the closure ends at the byte offset `to` in the source.
 fn body_mistake(to: usize, body: Tokens<'_, '_>) -> Option<FoundMistake> {
     match body.first() {
         Some(TokenTree::Group(group)) => group_mistake(to, group, body.rest()),
@@ -319,9 +323,9 @@ fn body_mistake(to: usize, body: Tokens<'_, '_>) -> Option<FoundMistake> {
 
 const BRACES: &str = "put all of the body in braces";
 
-/// Returns the mistake in a body that begins with `group`, if there is one. Either the closure
-/// drops the tokens of `rest` before the byte offset `to`, or the group changes its meaning because
-/// it loses its delimiters. `rest` contains the tokens after the group.
+/// Returns the mistake in a body that begins with `group`, or `None` if there is no mistake. Either
+/// the closure drops the tokens of `rest` before the byte offset `to`, or the loss of the group's
+/// delimiters changes the meaning of the group. `rest` contains the tokens after the group.
 fn group_mistake(to: usize, group: Group<'_, '_>, rest: Tokens<'_, '_>) -> Option<FoundMistake> {
     if let Some(span) = dropped(to, rest) {
         return Some(FoundMistake {
@@ -373,9 +377,9 @@ fn has_comma(run: Tokens<'_, '_>) -> bool {
     false
 }
 
-/// Returns the mistake in a body that begins with `->` and the type of its value, or `None` for any
-/// other body. `first` is the first token of the body, `rest` contains the tokens after `first`,
-/// and the closure ends at the byte offset `to` in the source.
+/// Returns the mistake in a body that begins with `->` and the type of the closure's value, or
+/// `None` for any other body. `first` is the first token of the body, and `rest` contains the
+/// tokens after `first`. The closure ends at the byte offset `to` in the source.
 fn type_mistake(to: usize, first: Punct, rest: Tokens<'_, '_>) -> Option<FoundMistake> {
     let from = first.span.from;
     if (first.character == '-') & begins_with('>', rest) {
@@ -388,7 +392,7 @@ fn type_mistake(to: usize, first: Punct, rest: Tokens<'_, '_>) -> Option<FoundMi
     None
 }
 
-/// Appends a warning to `warnings` for each `return` and each `?` in `body` outside of its groups.
+/// Appends a warning to `warnings` for each `return` and each `?` of `body` that is not in a group.
 /// Such a token exits the function around the closure.
 fn add_escapes(body: Tokens<'_, '_>, warnings: &mut Vec<Warning>) -> Result<(), Memory>
     ensures { OnOk result (AddsEach IsOfCallback warnings.old.items warnings.new.items) }
@@ -401,8 +405,8 @@ fn add_escapes(body: Tokens<'_, '_>, warnings: &mut Vec<Warning>) -> Result<(), 
     Ok(())
 }
 
-/// Returns the mistake of a token that exits the function around the closure: a `return` or a `?`.
-/// Returns `None` for any other token.
+/// Returns the mistake of a `return` or a `?`, which exits the function around the closure. Returns
+/// `None` for any other token.
 fn escape(tree: TokenTree<'_, '_>) -> Option<FoundMistake> {
     let (mistake, span) = match tree {
         TokenTree::Ident(name) if name.text == "return" => (CallbackMistake::Return, name.span),

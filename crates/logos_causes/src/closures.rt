@@ -1,5 +1,5 @@
-//! Finds the closures of a source among its tokens. Called by `callbacks`, once for the callbacks
-//! of all leaves and once for the callback for errors.
+//! Functions that find the closures of a source among the source's tokens. `callbacks` calls them
+//! once for the callbacks of all leaves and once for the error callback.
 
 use logos_pattern::leaf::{Callback, Leaf};
 use logos_token::token::{TokenTree, Tokens};
@@ -27,8 +27,9 @@ pub(crate) fn closure_starts(alloc: Global, leaves: &[Leaf<'_>]) -> Result<Vec<u
 }
 
 /// Returns the runs of tokens that begin at the byte offsets `starts` in a source. `tokens` are the
-/// tokens of the source, and the offsets ascend. Each run extends to the end of the group or the
-/// source that contains it. The result ends before the first offset at which no token begins.
+/// tokens of the source, and the offsets must ascend. Each run extends to the end of the innermost
+/// group that contains the run, or to the end of the source. The result ends before the first
+/// offset at which no token begins.
 pub(crate) fn runs_at<'t, 's>(
     alloc: Global,
     tokens: Tokens<'t, 's>,
@@ -55,8 +56,9 @@ fn search_run<'t, 's>(
     Ok(())
 }
 
-/// Appends `run` to `runs` if its first token begins at the next offset, the element of `starts` at
-/// the index `runs.len()`. If the first token is a group, also appends the runs in the group.
+/// Appends `run` to `runs` if the first token of `run` begins at the next offset, the element of
+/// `starts` at the index `runs.len()`. If the first token is a group, also appends the runs in the
+/// group.
 #[cycle(search)]
 fn search_first<'t, 's>(
     run: Tokens<'t, 's>,
@@ -70,8 +72,8 @@ fn search_first<'t, 's>(
     }
 }
 
-/// Appends `run` to `runs` if its first token begins at the next offset, the element of `starts` at
-/// the index `runs.len()`.
+/// Appends `run` to `runs` if the first token of `run` begins at the next offset, the element of
+/// `starts` at the index `runs.len()`.
 fn add_if_next<'t, 's>(
     run: Tokens<'t, 's>,
     starts: &[usize],

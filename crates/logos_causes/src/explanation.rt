@@ -1,5 +1,5 @@
-//! Explains the faults of a refused source, and finds the warnings for a lexer. Called by the
-//! programs and the derive macro.
+//! Functions that explain the faults of a refused source, or find the warnings for a lexer. The
+//! programs and the derive macro call them.
 
 ghost use Rattle.std.specs.Prelude.{◌≡◌, ◌≢◌, ◌≤◌, [], IfOk, OnOk};
 ghost use Rattle.logos_causes.specs.Views.{AddsEach, AreOfLexer, IsOfLexer, YieldsEnum, HasSets, IsRefusal, LeavesHaveSets, Spells, delimiter_limit, depth_of, enum_value, run_span, set_sizes, sizes_of, tokens_of};
@@ -40,8 +40,8 @@ impl Explained {
     }
 }
 
-/// Returns the clues about the faults of the graph of a refused source, and the warnings for the
-/// callbacks of the source. Both are empty if the source cannot be read as an enum.
+/// Returns the clues about the faults of a refused source's graph, and the warnings for the
+/// source's callbacks. Returns no clues and no warnings if the source cannot be read as an enum.
 ///
 /// # Errors
 ///
@@ -69,8 +69,8 @@ pub fn explain_enum(alloc: Global, source: &str, origin: Origin) -> Result<Expla
     explain_source(alloc, source, Some(origin))
 }
 
-/// Returns the explanation of a source. The explanation begins with the warnings of `enum_warnings`
-/// unless `origin` is `None`.
+/// Returns the explanation of a source. The warnings of `enum_warnings` come first, but are left
+/// out if `origin` is `None`.
 fn explain_source(alloc: Global, source: &str, origin: Option<Origin>) -> Result<Explained, Memory>
     ensures { IfOk result (λ known. HasSets source.now (sizes_of known.clues)) }
 {
@@ -94,8 +94,8 @@ fn explain_unreadable(alloc: Global, source: &str, error: TokenError) -> Result<
     }
 }
 
-/// Returns the explanation of a source with the tokens `tokens`. The explanation begins with the
-/// warnings of `enum_warnings` unless `origin` is `None`.
+/// Returns the explanation of a source with the tokens `tokens`. The warnings of `enum_warnings`
+/// come first, but are left out if `origin` is `None`.
 fn explain_tokens(
     alloc: Global,
     source: &str,
@@ -135,7 +135,7 @@ struct EnumText<'t, 's> {
 }
 
 /// Returns the clues about the faults of the graph of the enum `item`, and the warnings for the
-/// enum. The warnings begin with the warnings of `enum_warnings` unless `origin` is `None`. `text`
+/// enum. The warnings of `enum_warnings` come first, but are left out if `origin` is `None`. `text`
 /// is the text of the enum.
 fn explain_item(
     alloc: Global,
@@ -205,7 +205,7 @@ fn clues_of_analysis(
     clues_of_leaves(alloc, leaves_of(alloc, analysis), utf8_mode)
 }
 
-/// Returns the callback for errors of an analysis, or `None` if the analysis has no such callback.
+/// Returns the error callback of an analysis, or `None` if the analysis has no error callback.
 fn callback_of<'a, 's>(analysis: &'a Analysis<'s>) -> Option<&'a Callback<'s>> {
     match &analysis.parser.error_type {
         Some(error) => error.callback.as_ref(),
@@ -213,7 +213,7 @@ fn callback_of<'a, 's>(analysis: &'a Analysis<'s>) -> Option<&'a Callback<'s>> {
     }
 }
 
-/// Takes the leaves out of an analysis and returns them.
+/// Takes the leaves out of an analysis, and returns the leaves.
 fn leaves_of<'s>(alloc: Global, analysis: &mut Analysis<'s>) -> Vec<Leaf<'s>>
     ensures { result ≡ analysis.old.leaves }
 {
@@ -244,10 +244,11 @@ fn clues_of(alloc: Global, graph: &Graph<'_>) -> Result<Clues, AllocError>
     })
 }
 
-/// Returns the warnings for an enum without faults that derives `Logos` and has the tokens
-/// `tokens`. The warnings of `enum_warnings` come first, then the warnings for the callbacks of the
-/// lexer, beginning with the callback for errors, and last the warnings for leaves that are never
-/// found.
+/// Returns the warnings for an enum without faults. The enum derives `Logos` and has the tokens
+/// `tokens`.
+///
+/// The warnings of `enum_warnings` come first. The warnings for the callbacks of the lexer follow,
+/// beginning with the error callback. The warnings for leaves that are never found come last.
 ///
 /// # Errors
 ///
@@ -283,11 +284,11 @@ fn add_of_lexer(
     Ok(())
 }
 
-/// The graph of a lexer without faults, with its callback for errors.
+/// The graph and the error callback of a lexer without faults.
 #[derive(Clone, Copy)]
 pub struct Lexer<'g, 's> {
     /// The graph of the lexer, with its leaves.
     pub graph: &'g Graph<'s>,
-    /// The callback for errors, or `None` if there is none.
+    /// The error callback, or `None` if there is none.
     pub error: Option<&'g Callback<'s>>,
 }

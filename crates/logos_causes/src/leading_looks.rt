@@ -1,4 +1,5 @@
-//! Finds the patterns that can examine bytes before the start of a match. Used by `explanation`.
+//! Functions that find the patterns that can examine bytes before the start of a match. Used by
+//! `explanation`.
 
 ghost use Rattle.std.specs.Prelude.{◌≡◌, ◌∷◌, []};
 ghost use Rattle.logos_causes.specs.Imports.{some_leads, rule_of};

@@ -1,6 +1,6 @@
-//! Explains the faults of a graph by texts that all leaves of an ambiguous set match, and by
-//! patterns that examine the bytes before their start. Also warns about leaves that are never found
-//! and about mistakes in callbacks. Called by the programs and the derive macro.
+//! Explains the faults of a graph: shows texts that all leaves of an ambiguous set match, and
+//! patterns that examine bytes before the start of a match. Also warns about leaves that are never
+//! found and about mistakes in callbacks. Called by the programs and the derive macro.
 
 #![tactic(auto)]
 

@@ -1,5 +1,6 @@
-//! Finds the clues about the sets of ambiguous leaves of a graph. The leaves of a set meet on a
-//! text if exactly these leaves match the text with the highest priority. Used by `explanation`.
+//! Functions that find the clues about the sets of ambiguous leaves of a graph. The leaves of a set
+//! meet on a text if exactly these leaves match the text with the highest priority. Used by
+//! `explanation`.
 
 ghost use Rattle.std.specs.Prelude.{◌≡◌, ◌≤◌, ◌++◌, ◌∷◌, [], IfOk, IsTrue, OnOk, length, map};
 ghost use Rattle.std.specs.List.Sorted.{IsStrictlyIncreasing};
@@ -15,10 +16,11 @@ use logos_pattern::leaf::Leaf;
 use logos_report::Meeting;
 use std::alloc::{AllocError, Global};
 
-/// The maximum number of searches for a text that all leaves of a set match.
+/// The maximum number of sets for which a text that all leaves of the set match is searched for.
 const SEARCHED: usize = 10;
 
-/// Returns the clues about the sets of ambiguous leaves of a graph, in order, one for each set.
+/// Returns one clue for each set of ambiguous leaves of a graph, in the order of the graph's
+/// faults.
 pub(crate) fn meetings_of(alloc: Global, graph: &Graph<'_>) -> Result<Vec<Meeting>, AllocError>
     ensures { IfOk result (λ meetings. map size_of meetings.items ≡ set_sizes graph.now.faults) }
 {
@@ -30,7 +32,7 @@ pub(crate) fn meetings_of(alloc: Global, graph: &Graph<'_>) -> Result<Vec<Meetin
     Ok(meetings)
 }
 
-/// Appends the clue about the set of ambiguous leaves in `fault` to `meetings`, or nothing if
+/// Appends the clue about the set of ambiguous leaves in `fault` to `meetings`. Appends nothing if
 /// `fault` is not about ambiguous leaves.
 fn add_fault(
     alloc: Global,
@@ -65,7 +67,7 @@ fn add_set(
     Ok(())
 }
 
-/// Returns the numbers of `leaves`, in order.
+/// Returns the numbers of `leaves`, in the order of `leaves`.
 fn numbers_of(alloc: Global, leaves: &[LeafId]) -> Result<Vec<usize>, AllocError>
     ensures { IfOk result (λ set. set.items ≡ numbers leaves.now) }
 {
@@ -76,8 +78,8 @@ fn numbers_of(alloc: Global, leaves: &[LeafId]) -> Result<Vec<usize>, AllocError
     Ok(set)
 }
 
-/// Returns the clue about the set of ambiguous leaves with the numbers `set`. A text that all of
-/// these leaves match is searched for only if `is_searched` is `true`.
+/// Returns the clue about the set of ambiguous leaves with the numbers `set`. The function searches
+/// for a text that all of these leaves match only if `is_searched` is `true`.
 fn meeting_of(
     alloc: Global,
     graph: &Graph<'_>,
@@ -92,7 +94,8 @@ fn meeting_of(
     })
 }
 
-/// Returns the names of the leaves in `leaves` with the numbers `set`, in the order of the numbers.
+/// Returns the names of the leaves with the numbers `set`, in the order of the numbers. `leaves`
+/// contains all leaves.
 fn names_of(alloc: Global, leaves: &[Leaf<'_>], set: &[usize]) -> Result<Vec<String>, AllocError>
     ensures { IfOk result (λ names. length names.items ≡ length set.now) }
 {
@@ -114,9 +117,9 @@ fn name_at(alloc: Global, leaves: &[Leaf<'_>], number: usize) -> Result<String, 
 }
 
 /// Returns the note about the set of ambiguous leaves with the numbers `set`. The note contains a
-/// text that all of these leaves match, the priority of the leaves, and the priority that would
-/// decide between them. If no such text is found or `is_searched` is `false`, the note contains a
-/// general phrase instead of the text.
+/// text that all of these leaves match, the priority of the leaves, and a priority that would
+/// decide between the leaves. The note contains a general phrase instead of the text if no text is
+/// found or `is_searched` is `false`.
 fn note_of(
     alloc: Global,
     graph: &Graph<'_>,
@@ -138,9 +141,8 @@ fn note_of(
     page.finish()
 }
 
-/// Returns the priority of the leaves with the numbers `set`, a set of ambiguous leaves, or 0 if
-/// the first of them does not exist. All leaves of the set have the same priority as the first
-/// leaf.
+/// Returns the priority of the set of ambiguous leaves with the numbers `set`. All leaves of the
+/// set have the priority of the first leaf. Returns 0 if the first leaf does not exist.
 fn priority_of(leaves: &[Leaf<'_>], set: &[usize]) -> usize {
     let Some(first) = set.first() else {
         return 0;
@@ -210,8 +212,8 @@ fn ascends(set: &[usize]) -> bool
     true
 }
 
-/// Appends the prefix of `input` up to `end`, on which leaves meet, and the rest of `input` unless
-/// the rest is empty.
+/// Appends the text on which leaves meet, the prefix of `input` that ends at `end`. Also appends
+/// the rest of `input` unless the rest is empty.
 fn push_found(page: &mut Page, input: &[u8], end: usize)
     requires { end ≤ length input.now }
 {

@@ -1,4 +1,5 @@
-//! Names leaves in messages. Used by `leading_looks`, `meetings` and `shadowed_leaves`.
+//! Functions that name leaves in messages. Used by `leading_looks`, `meetings` and
+//! `shadowed_leaves`.
 
 use logos_page::Page;
 use logos_pattern::leaf::{Leaf, VariantKind};

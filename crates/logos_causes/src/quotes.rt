@@ -1,4 +1,4 @@
-//! Formats inputs for messages. Used by `meetings` and `shadowed_leaves`.
+//! Functions that format inputs for messages. Used by `meetings` and `shadowed_leaves`.
 
 use logos_page::Page;
 use std::str;
@@ -7,7 +7,7 @@ use std::str;
 const MOST: usize = 60;
 
 /// Appends at most the first 60 bytes of `bytes` in quotes, as a text if all of `bytes` is UTF-8,
-/// and as numbers otherwise. If bytes are left out, `..` follows the last one that is shown.
+/// and as numbers otherwise. Appends `..` after the last byte shown if bytes are left out.
 pub(crate) fn push_quoted(page: &mut Page, bytes: &[u8]) {
     page.push("\"");
     match str::from_utf8(bytes) {
@@ -18,7 +18,7 @@ pub(crate) fn push_quoted(page: &mut Page, bytes: &[u8]) {
 }
 
 /// Appends a text in the form in which it is shown on a terminal. If the text has more than `MOST`
-/// bytes, appends only its longest prefix of at most `MOST` bytes, and `..`.
+/// bytes, appends only the longest prefix of at most `MOST` bytes, followed by `..`.
 fn push_text(page: &mut Page, text: &str) {
     if text.len() > MOST {
         page.push_shown(front_of(text));
@@ -40,8 +40,8 @@ fn front_of(text: &str) -> &str {
     ""
 }
 
-/// Appends at most the first `MOST` bytes of `bytes`, each as `\x` and two hexadecimal digits, and
-/// `..` if there are more bytes.
+/// Appends at most the first `MOST` bytes of `bytes`, each as `\x` and two hexadecimal digits.
+/// Appends `..` if there are more bytes.
 fn push_bytes(page: &mut Page, bytes: &[u8]) {
     for byte in bytes.iter().take(MOST) {
         page.push("\\x");

@@ -1,5 +1,5 @@
-//! Finds the leaves that are never found in any input, and the leaves that are found instead. Used
-//! by `explanation`.
+//! Functions that find the leaves that are never found in any input, and the leaves that are found
+//! instead. Used by `explanation`.
 
 ghost use Rattle.std.specs.Prelude.{◌≡◌, ◌<◌, IfOk, IsTrue, OnOk, length};
 ghost use Rattle.logos_causes.specs.Views.{AddsEach, AreMarks, IsHidden, IsMarked, IsSet};
@@ -16,7 +16,7 @@ use logos_report::Warning;
 use logos_warnings::plain_warning;
 use std::alloc::{AllocError, Global};
 
-/// The maximum number of searches for the leaf that is found instead of a hidden leaf.
+/// The maximum number of hidden leaves for which the leaf that is found instead is searched for.
 const SEARCHED: usize = 10;
 
 /// Appends a warning to `warnings` for each leaf of a graph that is never found.
@@ -36,8 +36,9 @@ pub(crate) fn add_hidden(
 }
 
 /// Appends a warning for the leaf with the number `number` to `warnings` if the leaf is never
-/// found, that is, if its flag in `marked` is `false`. `count` is the number of earlier leaves with
-/// a warning. Returns `count`, plus one if a warning was appended.
+/// found. A leaf is never found if its flag in `marked` is `false`. `count` is the number of
+/// earlier leaves with a warning. Returns `count + 1` if a warning was appended, and `count`
+/// otherwise.
 fn add_if_hidden(
     graph: &Graph<'_>,
     marked: &[bool],
@@ -57,7 +58,7 @@ fn add_if_hidden(
     Ok(count)
 }
 
-/// Returns whether `marked` has a flag for the leaf with the number `number`, and this flag is
+/// Returns whether the leaf with the number `number` has a flag in `marked` and the flag is
 /// `false`.
 fn is_unmarked(marked: &[bool], number: usize) -> bool
     ensures { IsTrue result → ¬ IsSet marked.now number }
@@ -68,8 +69,8 @@ fn is_unmarked(marked: &[bool], number: usize) -> bool
     false
 }
 
-/// Appends the warning for the leaf with the number `number`, which is never found, to `warnings`.
-/// The warning names the leaf that is found instead only if `is_searched` is `true`.
+/// Appends the warning for a leaf that is never found to `warnings`. `number` is the number of the
+/// leaf. The warning names the leaf that is found instead only if `is_searched` is `true`.
 fn add_leaf(
     graph: &Graph<'_>,
     number: usize,
@@ -88,8 +89,9 @@ fn add_leaf(
     Ok(())
 }
 
-/// Returns the warning for `hidden`, the number of a leaf that is never found and the leaf itself.
-/// The warning names the leaf that is found instead only if `is_searched` is `true`.
+/// Returns the warning for a leaf that is never found. `hidden` contains the number of the leaf and
+/// the leaf itself. The warning names the leaf that is found instead only if `is_searched` is
+/// `true`.
 fn hidden_warning(
     alloc: Global,
     graph: &Graph<'_>,
@@ -120,8 +122,8 @@ fn warning_of(alloc: Global, leaf: &Leaf<'_>) -> Result<Warning, AllocError>
     Ok(plain_warning(message, leaf.span, None))
 }
 
-/// Explains why the leaf with the number `number` is never found. Adds a text on which another leaf
-/// is found instead, and the name and the span of the other leaf, to `warning`. Leaves the warning
+/// Explains in `warning` why the leaf with the number `number` is never found. Adds a text on which
+/// another leaf is found instead, and the name and the span of the other leaf. Leaves `warning`
 /// unchanged if there is no such text.
 fn explain(
     alloc: Global,
@@ -148,8 +150,8 @@ fn explain(
 }
 
 /// Returns the relation between the patterns of the leaves with the numbers `one` and `other`, as
-/// the end of a sentence: their texts are equal, or they match the same texts. Returns an empty
-/// text if neither holds.
+/// the end of a sentence. The sentence states that the patterns have equal texts, or that they
+/// match the same texts. Returns an empty text if neither holds.
 fn likeness_of(graph: &Graph<'_>, one: usize, other: usize) -> &'static str {
     if is_written_alike(graph.leaves(), one, other) {
         ": its pattern is the same"
@@ -168,8 +170,8 @@ fn is_written_alike(leaves: &[Leaf<'_>], one: usize, other: usize) -> bool {
     }
 }
 
-/// Returns whether the leaves with the numbers `one` and `other` match exactly the same texts, that
-/// is, whether each state of `dfa` lists both leaves or neither.
+/// Returns whether the leaves with the numbers `one` and `other` match exactly the same texts. This
+/// holds if each state of `dfa` lists both leaves or neither.
 fn are_twins(dfa: &Dfa, one: usize, other: usize) -> bool {
     for state in dfa.get_states() {
         if parts_leaves(dfa, state, one, other) {
@@ -200,7 +202,8 @@ fn lists(leaves: Matches<'_>, number: usize) -> bool {
 }
 
 /// Returns the note stating that the leaf `other` is found on the text `bytes`. The note contains
-/// the priority of `other` and `likeness`, the relation of `other` to the leaf that is never found.
+/// the priority of `other`. The note also contains `likeness`, the relation of `other` to the leaf
+/// that is never found.
 fn note_of(
     alloc: Global,
     bytes: &[u8],

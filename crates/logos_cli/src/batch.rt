@@ -1,4 +1,4 @@
-//! Expands several files into a folder. Called by `program`.
+//! Expands several files into a folder. `program` calls `run_batch` if the output is a folder.
 
 ghost use Rattle.std.specs.Prelude.{◌≡◌, ◌≢◌, ◌⊎◌, ◌≤◌, ◌++◌, ◌∷◌, [], ℕ, All, Contains, IfOk, IsTrue, List, MatchOption, OnOk, drop, false, map, true};
 ghost use Rattle.logos_cli.specs.Views.{Appends, AreCarriedOut, AreDenied, AreTouched, IsApart, IsOwnOutput, Keeps, OrderValue, requests_each, batch_value, batch_file_order, has_twins, is_among, order_into, order_value, orders_into, orders_of, output_text, texts_of};
@@ -22,10 +22,11 @@ struct BatchFile<'w> {
 }
 
 /// Expands the files of a batch. Writes each result into the folder, under the name of the input.
-/// With `--check`, only compares the results with the files in the folder. If a file is refused or
-/// fails, the remaining files are still expanded. The exit status is the highest exit status of all
-/// files. If a result would overwrite an input or another result, the exit status is 2, and nothing
-/// is read or written.
+/// With `--check`, only compares the results with the files in the folder.
+///
+/// If a file is refused or fails, the remaining files are still expanded. The exit status is the
+/// highest exit status of all files. If a result would overwrite an input or another result, the
+/// exit status is 2, and nothing is read or written.
 pub(crate) fn run_batch<F: ComparableFiles, O: Write, E: Write + IsTerminal>(
     alloc: Global,
     batch: Batch<'_>,
@@ -116,7 +117,7 @@ fn batch_file_of<'w>(alloc: Global, folder: &str, input: &'w str) -> Result<Batc
     Ok(BatchFile { input, output })
 }
 
-/// Returns the first path of a result that leads to an input, or `None` if no such path does.
+/// Returns the first path of a result that leads to an input, or `None` if there is no such path.
 fn own_output_in<'e, F: ComparableFiles>(
     batch_files: &'e [BatchFile<'_>],
     files: &F,
@@ -136,7 +137,7 @@ fn own_output_in<'e, F: ComparableFiles>(
     None
 }
 
-/// Returns whether `path` leads to an input of the batch.
+/// Returns whether `path` leads to the file of an input of the batch.
 fn is_input<F: ComparableFiles>(batch_files: &[BatchFile<'_>], path: &str, files: &F) -> bool
     ensures apart { result ≡ false →
         All (λ other. F.same_finds files.now other.input.now path.now false) batch_files.now }

@@ -26,7 +26,7 @@ pub(crate) struct StaleFile<'t> {
     pub(crate) input: &'t str,
     /// The path of the file that is missing or differs.
     pub(crate) path: &'t str,
-    /// The shape of the result.
+    /// The shape of the requested result.
     pub(crate) shape: Shape,
     /// The result of comparing the file with `made`. It is never `Same`.
     pub(crate) occurrence: Occurrence,
@@ -92,8 +92,8 @@ fn push_what(page: &mut Page, stale: &StaleFile<'_>) {
     }
 }
 
-/// Appends the first lines of a file and of the result, from the first difference on. Appends
-/// nothing if the file is empty.
+/// Appends the lines of a file and of the result from the first difference on, at most
+/// `SHOWN_LINES` of each. Appends nothing if the file is empty.
 fn push_lines(page: &mut Page, found: &str, made: &str) {
     if found.is_empty() {
         return;
@@ -122,15 +122,15 @@ fn after_same<'t>(found: &'t str, made: &'t str) -> Option<(&'t str, &'t str)> {
     }
 }
 
-/// Appends the first lines of `found` and of `made`. `number` is the line number at which both
-/// texts begin.
+/// Appends the first lines of `found` and of `made`, at most `SHOWN_LINES` of each. `number` is the
+/// line number at which both texts begin.
 fn push_both(page: &mut Page, number: usize, found: &str, made: &str) {
     push_side(page, " - ", number, found);
     push_side(page, " + ", number, made);
 }
 
-/// Appends the first lines of `text`, each preceded by its line number and `sign`. `number` is the
-/// line number at which `text` begins.
+/// Appends the first lines of `text`, at most `SHOWN_LINES`, each preceded by its line number and
+/// `sign`. `number` is the line number at which `text` begins.
 fn push_side(page: &mut Page, sign: &str, number: usize, text: &str) {
     let mut rest = text;
     for line in 0..SHOWN_LINES {
@@ -157,7 +157,7 @@ fn first_line(text: &str) -> Option<(&str, &str)> {
 }
 
 /// Appends `line` and a line end. If the line has more than `SHOWN_BYTES` bytes, appends a prefix
-/// of the line and `..` instead of the line.
+/// of the line, `..` and a line end instead.
 fn push_cut(page: &mut Page, line: &str) {
     if let Some((front, rest)) = line.split_at_checked(line.floor_char_boundary(SHOWN_BYTES)) {
         page.push_shown(front);

@@ -44,8 +44,8 @@ pub(crate) struct ExpandOrder<'w> {
 pub(crate) struct Batch<'w> {
     /// The arguments of the command line, which contain the paths of the files.
     pub(crate) arguments: &'w [String],
-    /// The order for the first file. The orders for the other files differ from it only in their
-    /// paths.
+    /// The order for the first file. The orders for the other files differ from this order only in
+    /// their paths.
     pub(crate) order: ExpandOrder<'w>,
     /// The path of the folder, which ends in `/`.
     pub(crate) folder: &'w str,
@@ -147,8 +147,8 @@ fn file_given<'w>(
 }
 
 /// Returns the request to expand several files into a folder if the output of `order` is a folder,
-/// and the request to expand one file otherwise. Refuses a second path if the output is not a
-/// folder.
+/// and the request to expand one file otherwise. Returns `Misuse` if there is a second path and the
+/// output is not a folder.
 fn placed<'w>(
     arguments: &'w [String],
     order: ExpandOrder<'w>,
@@ -189,8 +189,8 @@ fn is_given(path: Option<&str>) -> bool
     }
 }
 
-/// Returns the shape with the name `name`, or `Tables` if `name` is `None`. Refuses an unknown
-/// name.
+/// Returns the shape with the name `name`, or `Tables` if `name` is `None`. Returns `Misuse` if the
+/// name is unknown.
 fn shape_given<'w>(name: Option<&'w str>) -> Result<Shape, Failure<'w>>
     ensures shape { IfOk result (λ shape.
         named_shape (option_map (λ name. name.now) name.entry) ≡ Some shape) }

@@ -51,7 +51,7 @@ pub(crate) struct Ending {
 }
 
 /// Runs the program with its arguments, and returns the exit status of `run`. If the arguments
-/// cannot be read, writes a message and returns the exit status of this failure.
+/// cannot be read, writes the message of this failure and returns the exit status of the failure.
 pub(crate) fn run_with<F: ComparableFiles, O: Write, E: Write + IsTerminal>(
     alloc: Global,
     arguments: Result<Vec<String>, Failure<'static>>,
@@ -90,10 +90,14 @@ pub(crate) fn run_with<F: ComparableFiles, O: Write, E: Write + IsTerminal>(
     }
 }
 
-/// Runs the program. The exit status is 0 if the request is fulfilled, and 1 if it is refused. It
-/// is 2 if the arguments are invalid, or if a result would overwrite an input or another result. It
-/// is 3 if a file cannot be read or written, or if memory runs out. Messages are written to
-/// standard error.
+/// Runs the program. Messages are written to standard error.
+///
+/// The exit status is:
+///
+/// - 0 if the request is fulfilled.
+/// - 1 if the request is refused.
+/// - 2 if the arguments are invalid, or if a result would overwrite an input or another result.
+/// - 3 if a file cannot be read or written, or if memory runs out.
 pub(crate) fn run<F: ComparableFiles, O: Write, E: Write + IsTerminal>(
     alloc: Global,
     arguments: &[String],
@@ -137,7 +141,7 @@ pub(crate) fn run<F: ComparableFiles, O: Write, E: Write + IsTerminal>(
 }
 
 /// Returns the ending of a request that has no warnings. If the request failed, writes the message
-/// of the failure.
+/// of the failure to standard error.
 fn ended<E: Write>(done: Result<(), Failure<'_>>, err: &mut E) -> Ending
     requires { IfErr done (λ failure. status_of failure ≡ 3) }
     ensures { (result.status ≡ 3) ⊎ (result.status ≡ 0) }
@@ -224,7 +228,7 @@ pub(crate) fn carry_out<F: ComparableFiles, O: Write, E: Write + IsTerminal>(
     }
 }
 
-/// Returns the path of the output file if it leads to the input, and `None` otherwise.
+/// Returns the path of the output file if this path leads to the input, and `None` otherwise.
 fn own_output<'w, F: ComparableFiles>(order: ExpandOrder<'w>, files: &F) -> Option<&'w str>
     ensures { MatchOption result
         (IfSome (order_value order.entry).output
@@ -356,7 +360,8 @@ fn deliver<'w, F: ComparableFiles, O: Write>(
 }
 
 /// Writes `bytes` to the file at `path`, unless the file already contains these bytes. With
-/// `--check`, refuses a file that does not contain them.
+/// `--check`, writes nothing, and returns the failure of `difference` if the file does not contain
+/// these bytes.
 fn settle<'w, F: ComparableFiles>(
     alloc: Global,
     order: ExpandOrder<'w>,

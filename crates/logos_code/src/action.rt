@@ -1,8 +1,7 @@
-//! Defines the actions that callbacks return. Used by users' callbacks and by `logos_machine`,
-//! which performs the actions.
+//! Defines the actions that callbacks return and `logos_machine` performs. Part of the public
+//! interface.
 
-/// The result of a callback, which determines whether the match becomes a token, no item, or an
-/// error.
+/// The result of a callback. It determines whether the match becomes a token, no item, or an error.
 #[derive(Clone, Copy, Debug, PartialEq, Eq)]
 pub enum Action {
     /// The match becomes a token. For the leaf of a `skip`, `Emit` is equivalent to `Skip`.

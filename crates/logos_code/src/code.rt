@@ -118,7 +118,7 @@ pub struct Header<'s> {
     pub name: Ident<'s>,
     /// The type of the enum: the enum's name with its generic arguments.
     pub this: TypeExpr<'s>,
-    /// The callback for errors, if there is one.
+    /// The callback for errors, or `None` if there is none.
     pub error_callback: Option<Callback<'s>>,
 }
 
@@ -143,8 +143,8 @@ pub struct CodeParts<'s> {
 
 /// The code of a lexer. `Generator::generate` makes codes.
 ///
-/// All states, tables, tests and leaves to which a code refers exist, and no two of its jump tables
-/// are equal.
+/// All states, tables, tests and leaves to which a code refers exist, and no two jump tables of a
+/// code are equal.
 #[derive(Drop)]
 pub struct Code<'s> {
     parts: CodeParts<'s>,
@@ -157,8 +157,8 @@ pub struct Code<'s> {
     masks: Vec<[u8; 32]>,
     /// The mark of each state, as a sign.
     signs: Vec<Sign>,
-    /// For each state, the last mark that an attempt has passed if it ends in the state. The list
-    /// is empty if the last marks are unknown.
+    /// For each state, the last mark that an attempt has passed when the attempt ends in the state.
+    /// The list is empty if the last marks are unknown.
     last_marks: Vec<LastMark>,
     /// The use of each leaf's matches, in the order of the numbers of the leaves.
     uses: Vec<LeafUse>,
@@ -212,7 +212,7 @@ impl<'s> Code<'s> {
         &self.parts
     }
 
-    /// Returns the callback for errors, if there is one.
+    /// Returns the callback for errors, or `None` if there is none.
     pub fn error_callback(&self) -> Option<&Callback<'s>>
         ensures { option_copied result ≡ self.now.header.error_callback }
     {
@@ -335,9 +335,9 @@ impl Code<'_> {
         self.signs[state]
     }
 
-    /// Returns the last mark that an attempt has passed if it ends in the state with the row offset
-    /// `row_start`. With the result, a lexer need not make a second pass over the attempt. The
-    /// result may be `Unseen` or `Varies` for any state.
+    /// Returns the last mark that an attempt has passed when the attempt ends in the state with the
+    /// row offset `row_start`. With the result, a lexer need not make a second pass over the
+    /// attempt. The result may be `Unseen` or `Varies` for any state.
     #[cold]
     #[inline(never)]
     pub fn last_mark(&self, row_start: usize) -> LastMark

@@ -1,5 +1,5 @@
-//! A tokenizer of expressions: an example whose proof uses only the contracts of `generate` and
-//! `Lexer`. Called by the tests.
+//! Contains `Language`, a tokenizer of expressions, as an example of a proof that uses only the
+//! contracts of `generate` and `Lexer`. Called by the tests.
 
 ghost use Rattle.std.specs.Prelude.{◌≡◌, IfOk, IfErr, map};
 ghost use Rattle.logos_codegen.specs.Views.{item_of, kind_value, IsLanguage, kind_at, kind_given, kind_named, IsToken, IsErrorAt, Tokenizes, IsOutcome, Answers, IsRefusalOf, IsThatError};
@@ -75,7 +75,7 @@ pub struct ExprToken<'i> {
 pub enum ExprError {
     /// Faults of the tokenizer's source. A test shows that the source has none.
     Refused,
-    /// An error in the input. `span` is the span of the first error in the input, in bytes.
+    /// An error in the input. `span` is the span in bytes of the first error in the input.
     Bad { span: Span },
     /// Memory ran out.
     Memory,
@@ -156,7 +156,7 @@ impl Language {
         }
     }
 
-    /// Returns the tokens of a text, in order, without the blanks between them.
+    /// Returns the tokens of a text in the order of the text, without the blanks between them.
     ///
     /// # Errors
     ///

@@ -1,5 +1,5 @@
-//! The options of a source that determine the text around the body of its lexer. Used by
-//! `Generated`.
+//! Defines the options of a source that determine the text around the body of the source's lexer.
+//! Used by `Generated`.
 
 ghost use Rattle.std.specs.Prelude.{◌≡◌, option_map, option_copied};
 ghost use Rattle.logos_codegen.specs.Views.{around_options, around_value, error_run, error_tree, error_view, input_text, run_in, stream_tokens, tokens_of, type_tree};
@@ -10,7 +10,7 @@ use logos_token::token::{TokenStream, Tokens};
 use logos_token::util::MaybeVoid;
 use logos_type::TypeExpr;
 
-/// The options of a source on which the text around the body of its lexer depends.
+/// The options of a source that determine the text around the body of the source's lexer.
 #[derive(Drop)]
 pub(crate) struct AroundOptions<'s> {
     /// The path of the crate `logos`, or `None` if the source does not set the path.
@@ -20,7 +20,7 @@ pub(crate) struct AroundOptions<'s> {
 }
 
 impl<'s> AroundOptions<'s> {
-    /// Returns the parts of the text around a body that the options determine. `utf8_mode` is
+    /// Returns the parts of the text around a body, as the options determine them. `utf8_mode` is
     /// `true` if inputs are UTF-8.
     pub(crate) fn around(&self, utf8_mode: bool) -> Around<'_, 's>
         ensures { around_value result ≡ around_options self.now utf8_mode }

@@ -1,5 +1,5 @@
-//! Generates the code of a lexer from its source. `generate` returns the result as a `Generated`.
-//! Called by `lex_source`, the programs and users' code.
+//! `generate` generates the code of a lexer from its source, and returns a `Generated`. Part of the
+//! public interface, and called by `lex_source` and the programs.
 
 ghost use Rattle.std.specs.Prelude.{◌≡◌, ◌<◌, ◌↔◌, ◌∷◌, ◌++◌, Bool, List, [], length, map, flat_map, option_map, IfOk, IfErr, IsErrAnd, OnOk, IsTrue, string_bytes, option_copied};
 ghost use Rattle.logos_codegen.specs.Views.{Rule, fault_of, ident_slice, callback_view, parser_view, kind_value, utf8_mode, IsGraphOf, rules_of, KeepsGiven, IsLexer, HeadHasItsType, IsHeadOf, analysis_view, too_long, Refuses, IsMemory, OccurInOrder, texts_of, named_leaf, reported_as, IsGiven, KeepsEnum, error_callback, variant_at, RunsAreCut, IsAccepted, IsRefused, IsWithinSizes, IsWithinLimits, IsLimit, ReportsGraph, IsFaultless, AreGraphFaults, IsGraphMade, BeginsImplementation, IsFrontOf};
@@ -38,7 +38,7 @@ pub struct Generated<'s> {
     /// The path in the option `export_dir`, or `None` if the source does not have this option. A
     /// program writes the state diagram of the graph to this path.
     pub export_path: Option<String>,
-    /// The options of the source that determine the text around the body of its lexer.
+    /// The options of the source that determine the text around the body of the source's lexer.
     options: AroundOptions<'s>,
 }
 
@@ -73,7 +73,8 @@ impl Generated<'_> {
         Ok(self.printed(alloc)?.text)
     }
 
-    /// Returns the generated code that `text` returns, with the pieces of the source in this text.
+    /// Returns the generated code as the text that `text` returns, together with the pieces of the
+    /// source in this text.
     ///
     /// # Errors
     ///
@@ -189,7 +190,7 @@ fn graph_of<'s>(
     }
 }
 
-/// Returns whether `errors` has no fault.
+/// Returns whether `errors` contains no fault.
 fn is_faultless(errors: &Errors) -> bool
     ensures { IsTrue result ↔ (errors.now ≡ []) }
 {
@@ -200,8 +201,8 @@ fn is_faultless(errors: &Errors) -> bool
 ///
 /// # Errors
 ///
-/// Returns `Errors` with the faults of `errors` and the faults of the graph if there are any. An
-/// exceeded limit is a fault of the graph. Returns `Memory` if memory runs out.
+/// Returns `Errors` with the faults in `errors`, followed by the faults of the graph, if there are
+/// any faults. An exceeded limit is a fault of the graph. Returns `Memory` if memory runs out.
 fn faultless_graph<'s>(
     leaves: Vec<Leaf<'s>>,
     utf8_mode: bool,
@@ -223,7 +224,7 @@ fn faultless_graph<'s>(
     }
 }
 
-/// Returns the graph of the leaves of an analysis, and the head of its enum.
+/// Returns the graph of the leaves of an analysis, and the head of the analyzed enum.
 ///
 /// # Errors
 ///
@@ -365,12 +366,21 @@ fn put_together<'s>(code: Code<'s>, graph: Graph<'s>, head: EnumHead<'s>) -> Gen
 ///
 /// # Errors
 ///
-/// Returns `Errors` with the one fault that ends the reading of the source, or with all faults of
-/// the source in this order: faults of the generic parameters, of the attributes of the enum, of
-/// parameters that contain themselves, of subpatterns, of skips, of variants in source order, of
-/// leaves that can match invalid UTF-8 when inputs are UTF-8, of parameters without a type, and of
-/// the graph. Exceeded limits are also faults: limits on the length of the source, on the nesting
-/// of its delimiters, types and patterns, on the size of all trees, and on the number of states.
+/// Returns `Errors` with the one fault that ends the reading of the source, or otherwise with all
+/// faults of the source. The faults are in this order:
+///
+/// - faults of the generic parameters
+/// - faults of the attributes of the enum
+/// - faults of parameters that contain themselves
+/// - faults of subpatterns
+/// - faults of skips
+/// - faults of variants, in source order
+/// - faults of leaves that can match invalid UTF-8 when inputs are UTF-8
+/// - faults of parameters without a type
+/// - faults of the graph
+///
+/// Exceeded limits are also faults: limits on the length of the source, on the nesting of its
+/// delimiters, types and patterns, on the size of all trees, and on the number of states.
 ///
 /// Returns `Memory` if memory runs out.
 pub fn generate<'s>(alloc: Global, src: &'s str, config: Config) -> Result<Generated<'s>, Refusal>

@@ -1,5 +1,5 @@
 //! Re-exports the generator of code values, the code values, and the printer of their Rust text.
-//! Used by the programs, `logos_tables` and users' Rattle code.
+//! Part of the public interface, and used by `logos_tables` and the programs.
 
 pub use logos_generator::code::Code;
 pub use logos_generator::generator::{

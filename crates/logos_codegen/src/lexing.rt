@@ -1,4 +1,5 @@
-//! Lexes an input with the lexer of a source in one call. Called by users' code.
+//! `lex_source` lexes an input with the lexer of a source in one call. Part of the public
+//! interface.
 
 ghost use Rattle.std.specs.Prelude.{◌≡◌, List, Bool, map, length, true, IfOk, IfErr, IsTrue};
 ghost use Rattle.logos_codegen.specs.Views.{All, IsUtf8, Rule, CodeValue, IsCut, IsLexer, Items, answers_of, item_of, AreInOrder, Parts, IsLeftOut, Runs, IsAccepted, IsWithinLimits, IsUnlexed, IsJust, IsNoRefusal, TakesMatches, TakesMatchesOf, Memory as OutOfMemory, NotUtf8 as NoUtf8, IsThatRefusal};
@@ -62,7 +63,7 @@ impl From<Refusal> for LexSourceError {
     }
 }
 
-/// Returns all items that a code finds in an input, in order.
+/// Returns all items that a code finds in an input, in the order of the input.
 fn lex_input<'i, C: Fn(LeafId, &[u8]) -> Action + Drop>(
     alloc: Global,
     code: &Code,
@@ -79,12 +80,12 @@ fn lex_input<'i, C: Fn(LeafId, &[u8]) -> Action + Drop>(
     Ok(items(alloc, lexer)?)
 }
 
-/// Returns the items that the leaves of a source determine in an input, in order.
+/// Returns the items that the leaves of a source determine in an input, in the order of the input.
 ///
-/// The source is read as `generate` reads it. At each point of the input, the longest match is
-/// taken. Of several longest matches, the match of the leaf with the highest priority is taken. The
-/// match becomes a token of its leaf; a match of a `skip` becomes no item. If no leaf matches, the
-/// item is an error. An error spans the longest prefix that could still have become a match: at
+/// The source is read as `generate` reads a source. At each point of the input, the longest match
+/// is taken. Of several longest matches, the match of the leaf with the highest priority is taken.
+/// The match becomes a token of its leaf; a match of a `skip` becomes no item. If no leaf matches,
+/// the item is an error. An error spans the longest prefix that could still have become a match: at
 /// least one byte, and in UTF-8 mode whole characters.
 ///
 /// For each match of a leaf that has a callback, `callbacks` receives the leaf and the slice, and
@@ -93,8 +94,11 @@ fn lex_input<'i, C: Fn(LeafId, &[u8]) -> Action + Drop>(
 ///
 /// # Errors
 ///
-/// Returns `Refused` if the source has faults; otherwise `NotUtf8` if the source is in UTF-8 mode
-/// and the input is not UTF-8. Returns `Memory` if memory runs out.
+/// Returns:
+///
+/// - `Refused` if the source has faults
+/// - otherwise `NotUtf8` if the source is in UTF-8 mode and the input is not UTF-8
+/// - `Memory` if memory runs out
 pub fn lex_source<'i, C: Fn(LeafId, &[u8]) -> Action + Drop>(
     alloc: Global,
     src: &str,

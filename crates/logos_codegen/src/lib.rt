@@ -1,5 +1,5 @@
-//! Generates the code of a source, and lexes an input with the code. Re-exports the public modules
-//! of the crates below. Called by the programs and by users' Rattle code.
+//! Functions that generate the code of a source, and that lex an input with the code. Re-exports
+//! the public modules of the crates below. Part of the public interface, and used by the programs.
 
 #![tactic(auto)]
 

@@ -1,4 +1,4 @@
-//! Reports the faults of a graph. Called by `generate`.
+//! `report_fault` reports a fault of a graph. Called by `generation`.
 
 ghost use Rattle.std.specs.Prelude.{◌≡◌, ◌++◌, ◌==◌, ◌∷◌, [], map, flat_map, slice_get, option_map, if◌then◌else◌, IfOk, OnOk, string_bytes};
 ghost use Rattle.logos_codegen.specs.Imports.{option_map_or, fault_of, numbers, named_leaf, fault_at, line_of, other_lines, empty_match_faults, disambiguation_text, disambiguation_fault, disambiguation_faults, first_of, reported_as};
@@ -39,7 +39,7 @@ fn push_line(
     }
 }
 
-/// Appends a line for each leaf of the ambiguous `set` except `leaf` to the message of a fault.
+/// Appends to the message of a fault a line for each leaf of the ambiguous `set` except `leaf`.
 fn push_lines(
     text: &mut String,
     leaves: &[Leaf<'_>],

@@ -10,15 +10,17 @@ use logos_options::OptionName;
 /// A command of `logos`, with the paths of its files.
 #[derive(Clone, Copy)]
 pub(super) enum Command<'w> {
-    /// `gen`: print the generated code for the enum in the file.
+    /// The command `gen`, which prints the generated code for the enum in the file.
     Text { file: &'w str, config: Config },
-    /// `lex`: print the items that the lexer of the enum in the file finds in the input.
+    /// The command `lex`, which prints the items that the lexer of the enum in the file finds in
+    /// the input.
     Items(LexRequest<'w>),
-    /// `mermaid`: print the state diagram of the lexer of the enum in the file.
+    /// The command `mermaid`, which prints the state diagram of the lexer of the enum in the file.
     Diagram { file: &'w str },
-    /// `export`: write the state diagram to the file that the source names.
+    /// The command `export`, which writes the state diagram to the file that the source names.
     Export { file: &'w str },
-    /// `strip`: print the enum in the file without the attributes of the derive macro.
+    /// The command `strip`, which prints the enum in the file without the attributes of the derive
+    /// macro.
     Strip { file: &'w str },
 }
 
@@ -123,8 +125,8 @@ fn strip_of(arguments: &[String]) -> Option<Command<'_>>
 }
 
 /// Returns the code shape that `arguments` select, or `None` if the arguments are invalid.
-/// `arguments` are the arguments after the files of a command. Without arguments, the shape is one
-/// loop over the current state.
+/// `arguments` contains the arguments after the files of a command. Without arguments, the shape is
+/// one loop over the current state.
 fn shape_of(arguments: &[String]) -> Option<Config>
     ensures { result ≡ shape_in (map string_bytes arguments.now) }
 {

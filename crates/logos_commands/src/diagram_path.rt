@@ -35,8 +35,8 @@ pub(super) fn diagram_path(
     Err(refused_export(alloc, refused_by(extension)))
 }
 
-/// Returns the reason why the path of a diagram must not have the extension `extension`, which is
-/// not `mmd`.
+/// Returns the reason why the path of a diagram must not have the extension `extension`.
+/// `extension` must not be `mmd`.
 fn refused_by(extension: &str) -> ExportRefusal
     ensures { result ≡ refusal_by extension.now }
 {
@@ -47,8 +47,9 @@ fn refused_by(extension: &str) -> ExportRefusal
     }
 }
 
-/// Returns the extension of a name, the part after its last `.`, or `None` if the name has no
-/// extension. A leading `.` begins no extension, and `..` has no extension.
+/// Returns the extension of a name, or `None` if the name has no extension. The extension is the
+/// text after the last `.` of the name. A leading `.` begins no extension, and `..` has no
+/// extension.
 fn extension_of(name: &str) -> Option<&str>
     ensures { option_copied result ≡ extension name.now }
 {

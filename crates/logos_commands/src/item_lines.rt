@@ -38,9 +38,13 @@ pub(super) struct LexRequest<'w> {
 ///
 /// # Errors
 ///
-/// Returns the failure to read a file, `Refused` if the source is refused, `NotUtf8` if the lexer
-/// requires UTF-8 and the input is not UTF-8, `Memory` if memory runs out, and the failure to write
-/// to `out`.
+/// Returns:
+///
+/// - the failure to read a file,
+/// - `Refused` if the source is refused,
+/// - `NotUtf8` if the lexer requires UTF-8 and the input is not UTF-8,
+/// - `Memory` if memory runs out,
+/// - the failure to write to `out`.
 pub(super) fn lex<'w, F: Files, O: Write>(
     alloc: Global,
     request: LexRequest<'w>,
@@ -186,7 +190,7 @@ fn write_if_full<O: Write>(block: &mut Vec<u8>, out: &mut O) -> Result<(), Failu
     }
 }
 
-/// Appends the line of an item to `block`, which has room for the line.
+/// Appends the line of an item to `block`. `block` must have room for [`LONGEST`] further bytes.
 #[inline(always)]
 fn push_line(block: &mut Vec<u8>, item: Item<'_>)
     requires { vec_len block.old + LONGEST ≤ vec_capacity block.old }

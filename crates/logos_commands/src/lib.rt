@@ -1,5 +1,5 @@
-//! The commands of the program `logos`, generic over files and writers. Called by `logos_program`
-//! and the tests.
+//! Contains the commands of the program `logos`, generic over files and writers. Used by
+//! `logos_program` and the tests.
 
 #![tactic(auto)]
 

@@ -13,7 +13,7 @@ use logos_codegen::{Generated, generate, strip_attributes};
 use logos_host::{Failure, Files, read_text};
 use std::alloc::Global;
 
-/// The outcome of a command.
+/// The outcome of a command, before it is written.
 #[derive(Drop)]
 pub(super) enum CommandOutcome {
     /// A text for standard output.
@@ -42,8 +42,11 @@ const ANY_SHAPE: Config = Config {
 ///
 /// # Errors
 ///
-/// Returns the failure to read the file, `Refused` if the source or its export path is refused, and
-/// `Memory` if memory runs out.
+/// Returns:
+///
+/// - the failure to read the file,
+/// - `Refused` if the source or its export path is refused,
+/// - `Memory` if memory runs out.
 pub(super) fn of_file<'w, F: Files>(
     alloc: Global,
     file: &'w str,
@@ -129,8 +132,11 @@ fn text_of_lexer(alloc: Global, made: &Generated<'_>) -> Result<String, Failure<
 ///
 /// # Errors
 ///
-/// Returns the failure to read the file, `Refused` if the source is refused, and `Memory` if memory
-/// runs out.
+/// Returns:
+///
+/// - the failure to read the file,
+/// - `Refused` if the source is refused,
+/// - `Memory` if memory runs out.
 pub(super) fn stripped<'w, F: Files>(
     alloc: Global,
     file: &'w str,
@@ -213,7 +219,7 @@ fn tested_diagram(alloc: Global, graph: &Graph<'_>) -> Result<String, Failure<'s
     Ok(graph.get_mermaid(alloc)?)
 }
 
-/// Refuses a graph in which two consecutive states are equivalent.
+/// Tests that no two consecutive states of a graph are equivalent, and returns `Refused` otherwise.
 fn test_neighbours(alloc: Global, graph: &Graph<'_>) -> Result<(), Failure<'static>>
     ensures failed { IfErr result (λ failure. status_of failure ≡ 3) }
 {
@@ -227,7 +233,8 @@ fn test_neighbours(alloc: Global, graph: &Graph<'_>) -> Result<(), Failure<'stat
     Ok(())
 }
 
-/// Refuses a graph unless a text is found that distinguishes its two different states `s` and `t`.
+/// Tests that a text distinguishes the states `s` and `t` of a graph, and returns `Refused`
+/// otherwise. Tests nothing if the states are the same or the graph does not have them.
 fn test_pair(alloc: Global, graph: &Graph<'_>, s: State, t: State) -> Result<(), Failure<'static>>
     ensures { IfErr result (λ failure. status_of failure ≡ 3) }
 {

@@ -1,5 +1,5 @@
-//! Runs the program `logos` with its arguments, and returns the exit status. Used by
-//! `logos_program`.
+//! Defines `run`, which runs the program `logos` with its arguments and returns the exit status.
+//! Used by `logos_program`.
 
 ghost use Rattle.std.specs.Prelude.{◌≡◌, ◌≢◌, ◌≤◌, ◌⊎◌, ◌↔◌, None, map, string_bytes, IfErr, IfOk, IfSome, OnOk};
 ghost use Rattle.logos_commands.specs.Views.{Appends, Carries, Failure as Why, HasEffect, IsDenied, IsDone, IsLeft, IsPartOf, IsTouched, Keeps, ReadsSource, RefusesLexer, RefusesStripping, Touches, WritesFor, requested, effect_of, status_of};
@@ -46,9 +46,14 @@ pub fn run_with<F: Files, O: Write, E: Write>(
     }
 }
 
-/// Runs the command in `arguments`, and returns the exit status: 0 if the command was carried out,
-/// 1 if the source, the input or the export path was refused, 2 if the arguments are not a command,
-/// and 3 if a file, the output or memory failed.
+/// Runs the command in `arguments`, and returns the exit status.
+///
+/// The exit status is:
+///
+/// - 0 if the command was carried out,
+/// - 1 if the source, the input or the export path was refused,
+/// - 2 if the arguments are not a command,
+/// - 3 if a file, the output or memory failed.
 ///
 /// If the exit status is not 0, a message is written to `err`. Nothing is then written to `out`,
 /// unless writing to `out` fails.
@@ -95,7 +100,7 @@ pub fn run<F: Files, O: Write, E: Write>(
     }
 }
 
-/// The failure of arguments that are not a command.
+/// The failure for arguments that are not a command.
 const NO_COMMAND: Failure<'static> = Failure::Misuse {
     what: "no command",
     word: "",

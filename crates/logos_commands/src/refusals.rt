@@ -60,7 +60,7 @@ fn export_line(why: ExportRefusal) -> &'static str
 
 /// Returns the lines of all faults, or `Memory` if memory runs out. Reserves the memory for the
 /// lines in one step, because the faults of thousands of equal leaves take hundreds of megabytes,
-/// and a text that grows by doubling takes up to twice as much.
+/// and a text that grows by doubling can take twice as much.
 fn fault_lines(errors: &Errors) -> Result<String, Memory>
     ensures { IfOk result (λ text. string_bytes text ≡ fault_lines errors.now) }
 {
@@ -71,7 +71,7 @@ fn fault_lines(errors: &Errors) -> Result<String, Memory>
 }
 
 /// An estimate of the number of bytes in a line apart from its message: two numbers, a code, and
-/// the separators. Most lines have fewer bytes.
+/// the separators. In most lines, these have fewer bytes.
 const BESIDE_MESSAGE: usize = 80;
 
 /// Returns an estimate of the number of bytes in the lines of `faults`. No proof depends on this
@@ -85,7 +85,7 @@ fn size_of_lines(faults: &[SpannedError]) -> usize {
     size
 }
 
-/// Returns the number of bytes in `message` with `\n` in place of each LF.
+/// Returns the number of bytes in `message` with a backslash and `n` in place of each LF.
 fn size_on_one_line(message: &[u8]) -> usize {
     let mut size = message.len();
     for byte in message {
@@ -132,7 +132,7 @@ fn push_head(text: &mut String, fault: &SpannedError) -> Result<(), Memory>
     Ok(())
 }
 
-/// Appends `message` to `text`, with `\n` in place of each LF.
+/// Appends `message` to `text`, with a backslash and `n` in place of each LF.
 fn push_on_one_line(text: &mut String, message: &str) -> Result<(), Memory>
     ensures { OnOk result (string_bytes text.new
         ≡ string_bytes text.old ++ on_one_line message.now) }
@@ -143,7 +143,7 @@ fn push_on_one_line(text: &mut String, message: &str) -> Result<(), Memory>
     Ok(())
 }
 
-/// Appends a character, or `\n` in place of LF, to `text`.
+/// Appends a character to `text`, or a backslash and `n` if the character is LF.
 fn push_character(text: &mut String, character: char) -> Result<(), Memory>
     ensures { OnOk result (string_bytes text.new
         ≡ string_bytes text.old ++ line_character character) }

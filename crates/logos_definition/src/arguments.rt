@@ -11,8 +11,8 @@ use logos_pattern::leaf::Callback;
 use logos_token::error::{Errors, Memory};
 use logos_token::token::{Ident, Tokens};
 
-/// Sets `callback` from the argument `callback`, and reports the argument's faults. After an error,
-/// `callback` is unchanged.
+/// Sets `callback` from the argument `callback`, and reports the argument's faults. If memory runs
+/// out, `callback` is unchanged.
 pub(crate) fn add_callback<'s>(
     callback: &mut Option<Callback<'s>>,
     name: Ident<'s>,
@@ -32,9 +32,9 @@ pub(crate) fn add_callback<'s>(
     Ok(())
 }
 
-/// Sets `callback` to the callback that `tokens`, an argument without a name, spell. Reports the
-/// argument if `first` is `false`. If a first argument is not a callback, reports it and sets
-/// `callback` to `None`.
+/// Reads `tokens`, an argument without a name. If `first` is `true`, sets `callback` to the
+/// callback that the tokens spell. If these tokens do not spell a callback, reports them and sets
+/// `callback` to `None`. If `first` is `false`, only reports the argument.
 pub(crate) fn add_unnamed<'s>(
     callback: &mut Option<Callback<'s>>,
     first: bool,

@@ -29,15 +29,15 @@ pub struct Definition<'s> {
     pub literal: Literal<'s>,
     pub priority: Option<usize>,
     pub callback: Option<Callback<'s>>,
-    /// The value of `allow_greedy`, if the argument occurs: whether a greedy repetition of a dot is
-    /// allowed.
+    /// The value of the argument `allow_greedy`, or `None` if the argument does not occur. If the
+    /// value is `true`, a greedy repetition of a dot is allowed.
     pub allow_greedy: Option<bool>,
     pub ignore_flags: IgnoreFlags,
 }
 
-/// Sets `priority` to the number that `tokens` spell, and reports a second priority. If `tokens`
-/// are not a number, reports them and leaves the priority unchanged. After an error, the priority
-/// is unchanged.
+/// Sets `priority` to the number that `tokens` spell. If a priority was set before, also reports
+/// `tokens`. If `tokens` are not a number, reports them and leaves the priority unchanged. The
+/// priority is also unchanged if memory runs out.
 fn set_priority(
     priority: &mut Option<usize>,
     tokens: Tokens<'_, '_>,
@@ -59,9 +59,9 @@ fn set_priority(
     Ok(())
 }
 
-/// Sets `allow`, the value of `allow_greedy`, to the boolean that `tokens` spell, and reports a
-/// second value. If `tokens` are not a boolean, reports them and leaves the value unchanged. After
-/// an error, the value is unchanged.
+/// Sets `allow`, the value of `allow_greedy`, to the boolean that `tokens` spell. If a value was
+/// set before, also reports `tokens`. If `tokens` are not a boolean, reports them and leaves the
+/// value unchanged. The value is also unchanged if memory runs out.
 fn set_greedy(
     allow: &mut Option<bool>,
     tokens: Tokens<'_, '_>,
@@ -97,8 +97,8 @@ impl<'s> Definition<'s> {
         }
     }
 
-    /// Sets the priority from the argument `priority`, and reports the argument's faults. After an
-    /// error, the definition is unchanged.
+    /// Sets the priority from the argument `priority`, and reports the argument's faults. If memory
+    /// runs out, the definition is unchanged.
     fn add_priority(
         &mut self,
         name: Ident<'s>,
@@ -118,7 +118,7 @@ impl<'s> Definition<'s> {
         Ok(())
     }
 
-    /// Sets the flags in `ignore(..)`, and reports the argument's faults. After an error, the
+    /// Sets the flags in `ignore(..)`, and reports the argument's faults. If memory runs out, the
     /// definition is unchanged.
     fn add_ignore(
         &mut self,
@@ -140,7 +140,7 @@ impl<'s> Definition<'s> {
         Ok(())
     }
 
-    /// Sets the value of `allow_greedy`, and reports the argument's faults. After an error, the
+    /// Sets the value of `allow_greedy`, and reports the argument's faults. If memory runs out, the
     /// definition is unchanged.
     fn add_greedy(
         &mut self,
@@ -161,7 +161,7 @@ impl<'s> Definition<'s> {
     }
 
     /// Adds the argument `name` with `value` to the definition, and reports the argument's faults.
-    /// After an error, the definition is unchanged.
+    /// If memory runs out, the definition is unchanged.
     pub(crate) fn add_named(
         &mut self,
         name: Ident<'s>,

@@ -94,7 +94,7 @@ impl<'s> ErrorType<'s> {
     }
 
     /// Adds the argument `name` with `value` to the error type, and reports the argument's faults.
-    /// After an error, the error type is unchanged.
+    /// If memory runs out, the error type is unchanged.
     pub(crate) fn add_named(
         &mut self,
         name: Ident<'s>,

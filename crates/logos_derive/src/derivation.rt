@@ -1,5 +1,5 @@
-//! Derives an enum: returns its implementation or its errors, and its warnings. Called by the
-//! derive macro.
+//! Defines `derive`, which returns the implementation or the errors of an enum, and the warnings.
+//! Called by the derive macro.
 
 ghost use Rattle.std.specs.Prelude.{IfOk};
 ghost use Rattle.logos_derive.specs.Views.{All, HasErrors, IsAcceptedBy, IsDerivation, IsRefusedFor, IsWarning, around_made, sizes_of};

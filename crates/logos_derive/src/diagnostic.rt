@@ -1,10 +1,10 @@
-//! Errors and warnings, as the derive macro shows them. Used by `errors` and `warnings`.
+//! Defines errors and warnings as the derive macro shows them. Used by `errors` and `warnings`.
 
 use logos_token::error::{FaultCode, Memory};
 use logos_token::token::Span;
 use std::alloc::Global;
 
-/// The level of a diagnostic: an error, which refuses its enum, or a warning.
+/// The level of a diagnostic: an error, for which the enum is refused, or a warning.
 #[derive(Clone, Copy, Debug, PartialEq, Eq)]
 pub enum Level {
     Error,
@@ -39,7 +39,7 @@ pub struct Label {
     pub text: String,
 }
 
-/// A line under a diagnostic.
+/// A line under the message of a diagnostic.
 #[derive(Debug, Drop)]
 pub struct Note {
     /// Whether the line is a help: a way to fix the fault or the mistake.
@@ -62,7 +62,7 @@ pub(crate) fn add_other(also: Option<Span>, labels: &mut Vec<Label>) -> Result<(
     }
 }
 
-/// Appends the line `text`, which is not a help, to `notes`.
+/// Appends the line `text` to `notes`, not marked as a help.
 pub(crate) fn add_note(text: &str, notes: &mut Vec<Note>) -> Result<(), Memory> {
     add_line(false, text, notes)
 }

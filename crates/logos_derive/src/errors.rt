@@ -15,8 +15,8 @@ use logos_token::error::{FaultCode, Memory, SpannedError};
 use logos_token::token::Span;
 use std::alloc::Global;
 
-/// Returns the errors for `faults`, the faults of the source `part`, in order. `clues` are the
-/// clues about these faults.
+/// Returns the errors for `faults`, in the order of the faults. `part` is the source of the faults,
+/// and `clues` contains the clues about them.
 pub(crate) fn errors_of(
     alloc: Global,
     part: Part<'_, '_>,

@@ -1,6 +1,6 @@
-//! Derives an enum: returns its implementation, which contains pieces of the source, or its errors,
-//! and in both cases its warnings. Called by `rust/logos-derive`, which turns the implementation
-//! into tokens.
+//! Derives the implementation of an enum. `derive` returns the implementation, which contains
+//! pieces of the source, or the errors of the enum, and in both cases the warnings. Called by
+//! `rust/logos-derive`, which turns the implementation into tokens.
 
 #![tactic(auto)]
 

@@ -1,5 +1,5 @@
-//! Returns the lines under an error: the other lines of its message, the clues and the help. Called
-//! by `errors`.
+//! Makes the lines under an error: the other lines of its message, the clues and the help. `errors`
+//! calls `notes_of`.
 
 use crate::diagnostic::{Note, add_help, add_note};
 use logos_report::{MOST, Member, Part, Start, put_in};
@@ -25,9 +25,15 @@ pub(crate) struct KnownError<'f, 'p, 't> {
     pub(crate) left_out: usize,
 }
 
-/// Returns the lines under an error in this order: the subpattern that shifts the byte of its
-/// fault, the rest of the message, the patterns that explain the fault, the help, and the number of
-/// omitted faults with the same code.
+/// Returns the lines under an error.
+///
+/// These are, in this order:
+///
+/// - the subpattern that shifts the byte of the fault,
+/// - the rest of the message,
+/// - the patterns that explain the fault,
+/// - the help,
+/// - the number of omitted faults with the same code.
 pub(crate) fn notes_of(alloc: Global, error: KnownError<'_, '_, '_>) -> Result<Vec<Note>, Memory> {
     let mut notes = Vec::new(alloc);
     add_put_in(alloc, error, &mut notes)?;
@@ -95,7 +101,7 @@ fn add_advice(error: KnownError<'_, '_, '_>, notes: &mut Vec<Note>) -> Result<()
     }
 }
 
-/// Appends a line to `notes` which reports that `count` faults with the code of the error are not
+/// Appends to `notes` a line that reports that `count` faults with the code of the error are not
 /// shown. Appends nothing if `count` is 0.
 fn add_left_out(alloc: Global, count: usize, notes: &mut Vec<Note>) -> Result<(), Memory> {
     if count == 0 {

@@ -8,7 +8,7 @@ use logos_report::{Warning, first_of};
 use logos_token::error::Memory;
 use std::alloc::Global;
 
-/// Returns the first 50 of `warned` as diagnostics, in order.
+/// Returns the first 50 warnings in `warned` as diagnostics, in the order of `warned`.
 pub(crate) fn warnings_of(alloc: Global, warned: &[Warning]) -> Result<Vec<Diagnostic>, Memory>
     ensures { IfOk result (λ diagnostics. All IsWarning diagnostics.items) }
 {

@@ -1,4 +1,5 @@
-//! Draws the state diagram of a lexer as Mermaid text. Used by `logos_show`.
+//! The function `diagram_of`, which draws the state diagram of a lexer as Mermaid text. Called by
+//! `logos_show`.
 
 use crate::edges::{Drawn, push_edges, push_state};
 use crate::label::Mermaid;

@@ -1,4 +1,4 @@
-//! Writes the lines of a state and of its edges. Used by `diagram`.
+//! Functions that append the lines of a state and of its edges to a diagram. Called by `diagram`.
 
 use crate::folds::{add_folded, is_folded, size_of};
 use crate::label::Mermaid;
@@ -36,8 +36,8 @@ impl Drawn {
     }
 }
 
-/// Appends the line of the state with the number `state`, including the state's mark if there is
-/// one.
+/// Appends the line of the state with the number `state`, including the state's mark if the state
+/// is marked.
 pub(crate) fn push_state(mermaid: &mut Mermaid, graph: &Graph<'_>, state: usize, data: &StateData) {
     push_id(mermaid, state);
     match (data.state_type.early, data.state_type.accept) {

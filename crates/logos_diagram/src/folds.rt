@@ -1,5 +1,5 @@
-//! Folds the edges on the bytes of a character outside ASCII into one edge of a diagram. Used by
-//! `edges` and `names`.
+//! Functions that fold the edges on the bytes of a character outside ASCII into one edge of a
+//! diagram. Called by `edges` and `names`.
 
 use logos_graph::byte_class::ByteClass;
 use logos_graph::graph::{State, StateData};

@@ -1,5 +1,6 @@
-//! Builds Mermaid text from code and labels. Code comes from constants, and each character of other
-//! text passes through `push_label_char`. Used by all modules that write parts of a diagram.
+//! The type `Mermaid`, a Mermaid text to which code and labels are appended. Code comes from
+//! constants, and each character of any other text passes through `push_label_char`. Used by all
+//! modules that append lines or labels to a diagram.
 
 ghost use Rattle.std.specs.Prelude.{◌≡◌, ◌↔◌, [], false, true, IfOk, IsOk, IsTrue, decimal, string_bytes};
 ghost use Rattle.logos_diagram.specs.Imports.{Gains, coded, is_alphanumeric, is_between, is_coded, is_plain, label_char, label_text};

@@ -1,4 +1,4 @@
-//! Laws about the text of labels.
+//! Laws about the text of labels. The contract of each function is a law.
 
 ghost use Rattle.std.specs.Prelude.{ℕ, List};
 ghost use Rattle.logos_diagram.specs.Imports.{AreLabelBytes, label_text};

@@ -1,5 +1,5 @@
-//! Draws the state diagram of a lexer as Mermaid text, with short names for sets of bytes. The
-//! bytes of a character outside ASCII form one edge. Used by `logos_show` for `--mermaid`.
+//! The state diagram of a lexer as Mermaid text, with short names for sets of bytes. The bytes of a
+//! character outside ASCII form one edge. Used by `logos_show` for `--mermaid`.
 
 #![tactic(auto)]
 

@@ -1,5 +1,5 @@
-//! Writes the labels of edges, with short names for sets of bytes and of characters. Used by
-//! `edges`.
+//! Functions that append the labels of edges, with short names for sets of bytes and of characters.
+//! Called by `edges`.
 
 use crate::folds::size_of;
 use crate::label::Mermaid;
@@ -20,7 +20,7 @@ const WIDE: usize = 1_111_936;
 pub(crate) struct EdgeLabel<'a> {
     /// The set of bytes, or `None` if only characters outside ASCII take the edge.
     pub(crate) class: Option<&'a ByteClass>,
-    /// Whether the label names the bytes as all bytes that are on no other edge of the state.
+    /// Whether the label describes the bytes as all bytes that are on no other edge of the state.
     pub(crate) is_rest: bool,
     /// The number of characters outside ASCII that take the edge with all of their bytes.
     pub(crate) wide: usize,
@@ -46,7 +46,8 @@ pub(crate) fn push_edge_label(
     Ok(())
 }
 
-/// Appends the bytes `class` of an edge, and the edge's characters outside ASCII if there are any.
+/// Appends the text of `label`: the bytes in `class`, and the characters outside ASCII if there are
+/// any.
 fn push_bytes(page: &mut Page, class: &ByteClass, label: EdgeLabel<'_>) {
     if (label.wide == WIDE) & is_ascii(class) {
         return push_all_but(page, class);

@@ -1,5 +1,5 @@
-//! Splits attributes off the front of a run one by one. Called by the code that reads the
-//! attributes of enums and variants.
+//! Defines attributes, and the function `split_attribute`, which splits the first attribute off a
+//! run of attributes. Called by the crates that read the attributes of enums and variants.
 
 ghost use Rattle.std.specs.Prelude.{◌≡◌, ◌<◌, Some, None, MatchOption};
 ghost use Rattle.logos_enum.specs.Views.{count_of, tokens_of, attribute_in, split_value};

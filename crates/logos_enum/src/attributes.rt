@@ -1,5 +1,5 @@
-//! Reads attributes and visibilities. Called by the readers of enums, variants, fields and
-//! parameters.
+//! Functions that read or skip the attributes and the visibility at the front of a run. Called by
+//! `item`, `variants`, `fields` and `generics`.
 
 ghost use Rattle.std.specs.Prelude.{◌≡◌, ◌<◌, ◌≤◌, List, Ok, Err, Some, None, MatchOption, MatchResult, IfSome, IfOk, IfErr};
 ghost use Rattle.logos_enum.specs.Views.{none, also, punctuation, count_of, IsRestOf, tokens_of, tree_of, Grammar, end_mismatch, value_mismatch, path_mismatch, colon_mismatch, segment_mismatch, attribute_mismatch, IsPathStep, after_attributes, after_hash, Attributes, after_parenthesis, after_visibility, after_keyword};
@@ -47,8 +47,9 @@ fn read_segment<'t, 's>(tokens: Tokens<'t, 's>) -> Result<Tokens<'t, 's>, Mismat
     }
 }
 
-/// Returns the tokens after the second `:` of `::` and an identifier. `first` is the first `:`.
-/// Returns a mismatch at `first` if `tokens` do not begin with the second `:`.
+/// Returns the tokens after the second `:` of `::` and an identifier, with which `tokens` must
+/// begin. `first` is the first `:` of `::`. Returns a mismatch if the second `:` or the identifier
+/// is missing. If the second `:` is missing, the mismatch is at `first`.
 fn read_colon<'t, 's>(first: Punct, tokens: Tokens<'t, 's>) -> Result<Tokens<'t, 's>, Mismatch>
     ensures { MatchResult result
         (λ rest. (colon_mismatch first.span (tokens_of tokens.entry) ≡ path_mismatch (tokens_of rest))
@@ -61,9 +62,8 @@ fn read_colon<'t, 's>(first: Punct, tokens: Tokens<'t, 's>) -> Result<Tokens<'t,
     }
 }
 
-/// Takes one step along the tokens after a path. The first of these tokens is `punct`, and `tokens`
-/// are the others. Returns the tokens after `::` and an identifier, or `None` if the path ends and
-/// the attribute is well-formed.
+/// Does the same as [`path_step`] for tokens that begin with `punct`. `tokens` are the tokens after
+/// `punct`.
 fn path_step_at<'t, 's>(
     punct: Punct,
     tokens: Tokens<'t, 's>,
@@ -81,8 +81,9 @@ fn path_step_at<'t, 's>(
     Err(Mismatch { span: punct.span })
 }
 
-/// Takes one step along the tokens after a path. Returns the tokens after `::` and an identifier,
-/// or `None` if the path ends and the attribute is well-formed.
+/// Reads `::` and an identifier, with which the path of an attribute can continue at the front of
+/// `tokens`. Returns the tokens after the identifier, or `None` if the path has ended and the
+/// attribute is well-formed.
 fn path_step<'t, 's>(tokens: Tokens<'t, 's>) -> Result<Option<Tokens<'t, 's>>, Mismatch>
     ensures { IsPathStep (tokens_of tokens.entry) result }
 {
@@ -184,7 +185,8 @@ pub(crate) fn read_attributes<'t, 's>(
     Ok((tokens.before(rest), rest))
 }
 
-/// Returns the tokens after a group in parentheses if one comes first, and all tokens otherwise.
+/// Returns the tokens after a group in parentheses if `tokens` begins with such a group, and all
+/// tokens otherwise.
 fn skip_parenthesis<'t, 's>(tokens: Tokens<'t, 's>) -> Tokens<'t, 's>
     ensures value { tokens_of result ≡ after_parenthesis (tokens_of tokens.entry) }
     ensures shorter { count_of (tokens_of result) ≤ count_of (tokens_of tokens.entry) }
@@ -195,7 +197,8 @@ fn skip_parenthesis<'t, 's>(tokens: Tokens<'t, 's>) -> Tokens<'t, 's>
     }
 }
 
-/// Returns the tokens after a visibility if one comes first, and all tokens otherwise.
+/// Returns the tokens after a visibility if `tokens` begins with a visibility, and all tokens
+/// otherwise.
 pub fn skip_visibility<'t, 's>(tokens: Tokens<'t, 's>) -> Tokens<'t, 's>
     ensures value { tokens_of result ≡ after_visibility (tokens_of tokens.entry) }
     ensures shorter { count_of (tokens_of result) ≤ count_of (tokens_of tokens.entry) }

@@ -1,4 +1,4 @@
-//! The reasons why a run of tokens is not an enum. All readers of this crate return them.
+//! Defines the errors that the readers of this crate return if a run of tokens is not an enum.
 
 ghost use Rattle.std.specs.Prelude.{◌≡◌};
 ghost use Rattle.logos_enum.specs.Views.{Memory};
@@ -41,7 +41,7 @@ impl<T: Drop> From<AllocFailed<T>> for ReadError {
     }
 }
 
-/// The span of the first token that does not fit, or `0..0` at the end of the tokens.
+/// The span of the first token that does not fit, or `0..0` if the tokens end too early.
 #[derive(Clone, Copy)]
 pub(crate) struct Mismatch {
     pub span: Span,

@@ -1,5 +1,5 @@
-//! Finds the extents of bounds, defaults and types. An extent consists of the tokens up to the
-//! token that ends it. Called by the readers of parameters and fields.
+//! Functions that find the extents of bounds, defaults and types. An extent consists of the tokens
+//! up to the token that ends the extent. Called by `generics` and `fields`.
 
 ghost use Rattle.std.specs.Prelude.{◌≡◌, ◌+◌, ◌<◌, ◌≤◌, MatchOption};
 ghost use Rattle.logos_enum.specs.Views.{TokenList, also, punctuation, count_of, append, IsRestOf, tokens_of, ends, begins_arrow, depth_after, is_end, after_from, after_extent, after_generics, IsStep};
@@ -24,8 +24,8 @@ pub(crate) enum End {
     OfParameters,
 }
 
-/// The angle brackets before a token: `depth` is the number of open ones, and `arrow` is `true` if
-/// the preceding token is a `-` that can begin `->`.
+/// The angle brackets before a token. `depth` is the number of open angle brackets, and `arrow` is
+/// `true` if the preceding token is a `-` that can begin `->`.
 #[derive(Clone, Copy)]
 struct Angles {
     depth: usize,

@@ -1,4 +1,4 @@
-//! Reads the fields of variants. Called by the reader of variants.
+//! Functions that read the fields of a variant. Called by `variants`.
 
 ghost use Rattle.std.specs.Prelude.{◌≡◌, ◌<◌, ◌≤◌, List, map, Ok, Err, None, MatchOption, IfSome, MatchResult, IfOk, IfErr};
 ghost use Rattle.logos_enum.specs.Views.{none, count_of, tokens_of, error_is, FieldType, colon_in, label, field, fields, Holding, typed_value, field_value, fields_value, parenthesis_in, Occurs};
@@ -41,8 +41,8 @@ pub(crate) struct Typed<'t, 's> {
     run: Tokens<'t, 's>,
 }
 
-/// Converts the fault of a field's type to an error. `run` has the tokens of the type. The error
-/// has the span of `run` if too many types are nested.
+/// Converts the fault of a field's type to an error. `run` contains the tokens of the type. If too
+/// many types are nested, the error has the span of `run`.
 fn error_of(run: Tokens<'_, '_>, fault: TypeFault) -> ReadError
     ensures { error_is (tokens_of run.entry) fault result }
 {
@@ -127,8 +127,9 @@ fn read_field<'t, 's>(
     Ok((field, rest))
 }
 
-/// Returns the fields in `tokens`, the tokens inside a group. `named` states whether the fields
-/// must have names. Returns the first fault if a token belongs to no field.
+/// Returns the fields of a variant. `tokens` are the tokens inside the parentheses or the braces.
+/// `named` states whether the fields must have names. Returns the first fault if a token belongs to
+/// no field.
 fn read_fields<'t, 's>(
     alloc: Global,
     named: bool,
@@ -150,8 +151,8 @@ fn read_fields<'t, 's>(
     Ok(list)
 }
 
-/// Returns the fields in parentheses, and the tokens after the parentheses. Returns `None` if no
-/// parenthesis comes first.
+/// Returns the fields in parentheses, and the tokens after the parentheses. Returns `None` if
+/// `tokens` does not begin with a group in parentheses.
 fn read_tuple<'t, 's>(
     alloc: Global,
     tokens: Tokens<'t, 's>,
@@ -171,7 +172,8 @@ fn read_tuple<'t, 's>(
 }
 
 /// Returns the fields in braces, and the tokens after the braces. Returns `Unit` and all tokens if
-/// no brace comes first. No parenthesis may come first.
+/// `tokens` does not begin with a group in braces. `tokens` must not begin with a group in
+/// parentheses.
 fn read_named<'t, 's>(
     alloc: Global,
     tokens: Tokens<'t, 's>,

@@ -1,4 +1,4 @@
-//! Reads generic parameters. Called by the reader of enums.
+//! Functions that read generic parameters. Called by `item`.
 
 ghost use Rattle.std.specs.Prelude.{◌≡◌, ◌<◌, ◌≤◌, List, map, Ok, Err, MatchResult, IfOk, IfErr};
 ghost use Rattle.logos_enum.specs.Views.{also, identifier, count_of, tokens_of, begins_with, greater, head_of, head_in, some_in, bounds_in, constant_in, default_in, tail, shape, OneParameter, closing_in, parameters, Generics, Listed, Occurs, ident_slice, head_value, parameter_value};
@@ -11,7 +11,7 @@ use logos_token::token::{Ident, TokenTree, Tokens};
 use logos_token::util::begins_with;
 use std::alloc::Global;
 
-/// The kind of a generic parameter.
+/// The kind of a generic parameter: a lifetime, a type or a constant.
 #[derive(Clone, Copy, Debug, PartialEq, Eq)]
 pub enum ParameterKind {
     Lifetime,

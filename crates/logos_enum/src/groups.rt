@@ -1,4 +1,5 @@
-//! Opens the group at the front of a run. Called by the readers of attributes, fields and bodies.
+//! Functions that return the group at the front of a run, with the tokens inside and after the
+//! group. Called by `attribute_run`, `fields` and `item`.
 
 ghost use Rattle.std.specs.Prelude.{◌≡◌, ◌<◌, Some, None, MatchOption};
 ghost use Rattle.logos_enum.specs.Views.{count_of, tokens_of, parenthesis_in, bracket_in, brace_in, opened_value};

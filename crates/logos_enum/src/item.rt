@@ -1,4 +1,5 @@
-//! Reads a whole enum. Called by `logos_parser`, `logos_strip` and the finder of enums in files.
+//! The function `read_enum`, which reads a whole enum. Called by `logos_parser`, `logos_strip`,
+//! `logos_causes` and `logos_warnings`.
 
 ghost use Rattle.std.specs.Prelude.{◌≡◌, ◌<◌, ◌≤◌, List, map, Ok, Err, Result, Some, None, MatchOption, MatchResult, IfOk, IfErr};
 ghost use Rattle.logos_enum.specs.Views.{TokenList, none, count_of, tokens_of, ReadError as ReadErrorValue, Memory, announced_in, IsFront, from_brace, where_in, Body, end_in, NoFront, item, Reads, EnumValue, variant_value, enum_value, Occurs};
@@ -12,7 +13,7 @@ use crate::variants::{Variant, read_variants};
 use logos_token::token::{Delimiter, Ident, TokenTree, Tokens};
 use std::alloc::Global;
 
-/// An enum. Its runs are views of the tokens from which the enum was read.
+/// An enum. Each run of tokens in it is a slice of the tokens from which the enum was read.
 #[derive(Drop)]
 pub struct ItemEnum<'t, 's> {
     /// The attributes of the enum. Each attribute is `#` and brackets, or a documentation comment.
@@ -88,8 +89,8 @@ fn read_end(tokens: Tokens<'_, '_>) -> Result<(), ReadError>
     }
 }
 
-/// Returns `attributes` and the tokens after `enum`. `middle` has the tokens after the attributes.
-/// Returns `None` if `middle` does not begin with an optional visibility and `enum`.
+/// Returns `attributes`, and the tokens after `enum`. `middle` contains the tokens after the
+/// attributes. Returns `None` if `middle` does not begin with an optional visibility and `enum`.
 fn announced<'t, 's>(
     attributes: Tokens<'t, 's>,
     middle: Tokens<'t, 's>,
@@ -159,9 +160,13 @@ fn read_item<'t, 's>(
 /// # Errors
 ///
 /// Returns `NotAnEnum` if the run does not begin with well-formed attributes, an optional
-/// visibility and `enum`. Otherwise, returns the first fault from the left: `Grammar` at a token
-/// that does not fit, `TypeUnsupported` at an unsupported type, or `LimitTypeNesting` at a type
-/// that exceeds the limit. Returns `Memory` if memory runs out.
+/// visibility and `enum`. Otherwise, returns the first fault from the left:
+///
+/// - `Grammar` at a token that does not fit.
+/// - `TypeUnsupported` at an unsupported type.
+/// - `LimitTypeNesting` at a type that exceeds the limit.
+///
+/// Returns `Memory` if memory runs out.
 pub fn read_enum<'t, 's>(
     alloc: Global,
     tokens: Tokens<'t, 's>,

@@ -1,5 +1,5 @@
-//! Reads an enum: its attributes, its generic parameters and its variants. Other crates read the
-//! runs of tokens in the enum.
+//! Functions and types for reading an enum: its attributes, its generic parameters and its
+//! variants. Other crates read the runs of tokens in the enum.
 
 #![tactic(auto)]
 

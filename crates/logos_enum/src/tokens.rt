@@ -1,4 +1,4 @@
-//! Takes single tokens from the front of a run. Called by all readers of this crate.
+//! Functions that take single tokens from the front of a run. Called by all readers of this crate.
 
 ghost use Rattle.std.specs.Prelude.{◌≡◌, ◌<◌, ◌≤◌, true, false, List, Ok, Err, MatchOption, MatchResult};
 ghost use Rattle.logos_enum.specs.Views.{Span, Spacing, none, also, punctuation, count_of, rest_of, tokens_of, tree_of, first_span, greater, begins_with, is_none, is_outer, Grammar, after_item, name_in, ident_slice};

@@ -1,4 +1,4 @@
-//! Reads the variants of an enum. Called by the reader of enums.
+//! Functions that read the variants of an enum. Called by `item`.
 
 ghost use Rattle.std.specs.Prelude.{◌≡◌, ◌<◌, ◌≤◌, List, map, Ok, Err, MatchOption, MatchResult, IfOk, IfErr};
 ghost use Rattle.logos_enum.specs.Views.{none, count_of, tokens_of, from_comma, value_in, discriminant_in, variant, variants, variant_value, Occurs};
@@ -96,8 +96,8 @@ fn read_variant<'t, 's>(
     Ok((variant, rest))
 }
 
-/// Returns the variants in `tokens`, the tokens inside the braces of an enum. Returns the first
-/// fault if a token belongs to no variant.
+/// Returns the variants of an enum. `tokens` are the tokens inside the enum's braces. Returns the
+/// first fault if a token belongs to no variant.
 pub(crate) fn read_variants<'t, 's>(
     alloc: Global,
     tokens: Tokens<'t, 's>,

@@ -19,7 +19,7 @@ pub enum Comparison {
     Differ(Vec<u8>),
 }
 
-/// A graph, and the names of its leaves as numbers.
+/// A graph, with a number that represents the name of each leaf.
 #[derive(Clone, Copy)]
 pub struct Named<'g, 's> {
     pub graph: &'g Graph<'s>,
@@ -39,8 +39,9 @@ struct GraphPair<'g> {
     utf8: bool,
 }
 
-/// Returns whether the name of the leaf `mark` in `names` equals the name of the leaf `twin` in
-/// `others`. Two missing names count as equal.
+/// Returns whether the leaf `mark` of one graph and the leaf `twin` of another have equal names.
+/// `names` and `others` contain the names of the leaves of the two graphs. Two missing names count
+/// as equal.
 fn same_mark(names: &[usize], mark: usize, others: &[usize], twin: usize) -> bool
     ensures { result ≡ machines.same_option (slice_get names.now mark) (slice_get others.now twin) }
 {
@@ -51,8 +52,8 @@ fn same_mark(names: &[usize], mark: usize, others: &[usize], twin: usize) -> boo
     }
 }
 
-/// Returns whether an input may be cut before `byte`: in UTF-8 mode, whether `byte` can begin a
-/// character.
+/// Returns whether an input may be cut before `byte`. In UTF-8 mode, an input may only be cut
+/// before a byte that can begin a character.
 fn is_cut(utf8: bool, byte: u8) -> bool
     ensures { result ≡ machines.is_cut utf8 byte }
 {

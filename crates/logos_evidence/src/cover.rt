@@ -32,14 +32,14 @@ impl Machine for EdgeMachine<'_> {
     }
 }
 
-/// Returns inputs that together take all edges of a graph that any input takes: the edges for
-/// bytes, and the edges for the end of the input. The inputs are seeds for tests and fuzzers.
+/// Returns inputs that together take each edge of a graph that at least one input takes. These
+/// edges include the edges for the end of the input. The inputs are seeds for tests and fuzzers.
 ///
 /// Each input takes an edge that no earlier input takes, so there are at most as many inputs as
 /// edges. In UTF-8 mode the inputs are UTF-8. Inputs that lead to states far from the root come
-/// first. Each input has at most one byte for each state on its way, and up to four more. If the
-/// enum has many long keywords and a leaf for names, the total length of all inputs can grow with
-/// the square of the number of states.
+/// first. Each input has at most one byte for each state on its way, and at most four further
+/// bytes. The total length of all inputs can grow with the square of the number of states, for
+/// example if an enum has many keywords and a leaf for names.
 ///
 /// # Errors
 ///

@@ -1,5 +1,5 @@
-//! Finds a shortest input on which a leaf is found first. Used by `logos_answers` for `--examples`,
-//! and by the other modules that follow graphs.
+//! Finds a shortest input on which a lexer finds a match of a leaf first. Used by `logos_answers`
+//! for `--examples`, and by the other modules that follow graphs.
 
 ghost use Rattle.std.specs.Prelude.{◌≡◌, [], IfOk, MatchOption};
 ghost use Rattle.logos_evidence.specs.Imports.{IsGraphOf, rules_of, HasNoExample, IsShortestExample, example_next, example_goal, shown};

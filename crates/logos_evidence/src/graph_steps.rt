@@ -1,5 +1,5 @@
-//! Takes steps of a graph, and finds the matches that end at a step. Used by `comparison`, `cover`,
-//! `examples` and `losses`.
+//! Functions that take steps of a graph, and find the matches that end at a step. Used by
+//! `comparison`, `cover`, `examples` and `losses`.
 
 ghost use Rattle.std.specs.Prelude.{◌≡◌, [], IfOk, find, length, map, option_map};
 ghost use Rattle.logos_evidence.specs.Imports.{has_byte, IsFinished, edge_of, graph_state_of, is_in, shown};
@@ -105,9 +105,9 @@ fn late_of(states: &[&StateData], state: usize) -> Option<usize>
     Some(leaf.0)
 }
 
-/// Returns the leaf whose match ends at `state`, or `None` if no match ends there. `next` is the
-/// state to which the step from `state` leads. The leaf is the late mark of `next`, or the early
-/// mark of `state` if `next` has no late mark.
+/// Returns the leaf whose match ends at `state`, or `None` if no match ends at `state`. `next` is
+/// the state to which the step from `state` leads. The leaf is the late mark of `next`, or the
+/// early mark of `state` if `next` has no late mark.
 pub(crate) fn seen_by(states: &[&StateData], state: usize, next: Option<usize>) -> Option<usize>
     ensures { result ≡ lasts.seen_by (shown states.now) state next }
 {

@@ -1,5 +1,6 @@
-//! Finds a shortest input on which a leaf matches, but another leaf is found first. Used by
-//! `logos_answers` for `--examples`, and by `logos_causes` for warnings.
+//! Finds a shortest input that begins with a match of a leaf, but on which a lexer finds a match of
+//! another leaf first. Used by `logos_answers` for `--examples`, and by `logos_causes` for
+//! warnings.
 
 ghost use Rattle.std.specs.Prelude.{◌≡◌, ◌==◌, [], IfOk, MatchOption, option_map};
 ghost use Rattle.logos_evidence.specs.Imports.{list_any, IsGraphOf, rules_of, IsShortestLoss, NeverLoses, dfa_of, loss_next, loss_goal, shown};
@@ -65,9 +66,10 @@ impl Machine for Losses<'_> {
     }
 }
 
-/// Returns a shortest input that begins with a match of the leaf, but in which a lexer finds a
-/// match of another leaf first. Returns `None` if and only if there is no such input. Among inputs
-/// of the same length, the search prefers letters, then digits, then punctuation.
+/// Returns a shortest input that begins with a match of the leaf with the number `leaf`, but on
+/// which a lexer finds a match of another leaf first. Returns `None` if and only if there is no
+/// such input. Among inputs of the same length, the search prefers letters, then digits, then
+/// punctuation.
 ///
 /// The graph must have no faults.
 ///

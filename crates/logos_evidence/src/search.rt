@@ -1,5 +1,5 @@
-//! Searches machines that read bytes for a shortest input that leads to a goal, and for inputs that
-//! together take all steps. Used by the other modules of this crate.
+//! Functions that search for a shortest input that leads a machine to a goal, and for inputs that
+//! together take all steps of a machine. Used by the other modules of this crate.
 
 ghost use Rattle.std.specs.Prelude.{◌≡◌, IfOk, MatchOption};
 ghost use Rattle.logos_evidence.specs.search.Views.{IsShortest, NoneLeads, pending_goal};
@@ -18,7 +18,7 @@ pub use cover::covering;
 pub use point::{Machine, Point};
 use std::alloc::{AllocError, Global};
 
-/// Returns whether an input can end at a pending point, and the point is a goal.
+/// Returns whether a pending point is a goal at which an input can end.
 pub(crate) fn is_goal<M: Machine>(machine: &M, pending: PendingPoint) -> bool
     ensures { result ≡ pending_goal (M.goal machine.now) pending }
 {

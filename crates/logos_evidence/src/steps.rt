@@ -1,5 +1,5 @@
-//! Takes steps of an automaton, and returns the leaves that its states list. Used by `losses` and
-//! `meetings`.
+//! Functions that take steps of an automaton, and return the leaves that its states list. Used by
+//! `losses` and `meetings`.
 
 ghost use Rattle.std.specs.Prelude.{◌≡◌, option_map, slice_get};
 ghost use Rattle.logos_automaton.specs.DfaView.{dfa_of};

@@ -73,7 +73,7 @@ pub fn expand<'w>(
     expand_enums(source, shape, showing, &file)
 }
 
-/// Returns the failure for a file that cannot be read into tokens. `refusal` is the reason. The
+/// Returns the failure for a file that cannot be read into tokens for the reason `refusal`. The
 /// failure is `Memory` if memory runs out.
 fn refused_whole<'w>(source: &Source<'_>, showing: Showing, refusal: Refusal) -> Failure<'w>
     requires { Refuses (IsUnreadable source.now.text) refusal }
@@ -118,15 +118,16 @@ fn expand_enums<'w>(
     Err(refused_file(source, showing, &gathered.refused, &warned))
 }
 
-/// Returns whether a file may import `Logos`: whether the text of the file contains a path that an
-/// import of `Logos` could have.
+/// Returns whether a file may import `Logos`. This is the case if the text of the file contains a
+/// path that an import of `Logos` could have.
 fn has_import(source: &Source<'_>) -> bool {
     let text = source.text();
     text.contains("::Logos") | text.contains("logos::{") | text.contains("::*")
 }
 
-/// Returns the expansion of a file without faults, with `parts` replaced, or the failure with the
-/// warnings `warned` if they are denied. `tokens` are the tokens of the file.
+/// Returns the expansion of a file without faults, in which the parts in `parts` are replaced.
+/// Returns the failure with the warnings `warned` if these warnings are denied. `tokens` are the
+/// tokens of the file.
 fn accepted_file<'w>(
     source: &Source<'_>,
     shape: Shape,
@@ -191,9 +192,9 @@ fn expanded_file(
 }
 
 /// Returns `bytes`, the text of a file, with plain comments in place of the file's inner
-/// documentation and inner attributes. Returns `bytes` unchanged if there are none or if they
-/// cannot become plain comments. `tokens` are the tokens of the file before its parts were
-/// replaced.
+/// documentation and inner attributes. Returns `bytes` unchanged if the file has no inner
+/// documentation and no inner attributes, or if these cannot become plain comments. `tokens` are
+/// the tokens of the file before its parts were replaced.
 fn plain_file(alloc: Global, bytes: Vec<u8>, tokens: Tokens<'_, '_>) -> Result<Vec<u8>, Memory>
     ensures { IfOk result (λ body. IsWithoutInner bytes.items body.items) }
 {
@@ -207,7 +208,7 @@ fn plain_file(alloc: Global, bytes: Vec<u8>, tokens: Tokens<'_, '_>) -> Result<V
 }
 
 /// Returns the text of a file with plain comments in place of the file's inner documentation and
-/// inner attributes, or `None` if they cannot become plain comments or the text is not UTF-8.
+/// inner attributes. Returns `None` if these cannot become plain comments or the text is not UTF-8.
 fn plain_bytes(alloc: Global, bytes: &[u8]) -> Result<Option<Vec<u8>>, Memory>
     ensures { IfOk result (λ found. IfSome found (λ body. IsPlainly bytes.now body.items)) }
 {
@@ -328,9 +329,9 @@ fn push_refusal(
     }
 }
 
-/// Returns the enum `source` without the derive and its attributes, followed by the implementation,
-/// or the refusal of the enum. Appends the warnings for an accepted enum and for its lexer to
-/// `warned`.
+/// Returns the enum `source` without the derive and its attributes, followed by the implementation.
+/// Returns the refusal of the enum if the enum is refused. Appends the warnings for an accepted
+/// enum and for its lexer to `warned`.
 fn expanded(source: &str, site: Site<'_, '_>, warned: &mut Vec<Warning>) -> Result<String, Refusal>
     ensures done { IfOk result
         (λ text. IsExpansion site.entry.shape source.now (string_bytes text)) }
@@ -433,8 +434,8 @@ fn faults_text(
     }
 }
 
-/// Returns a line of JSON for each of the warnings `warned` and then for each of the faults
-/// `refused`. At most the first 50 warnings, and at most 50 faults of one code, have a line.
+/// Returns lines of JSON: one for each of the first 50 of the warnings `warned`, followed by one
+/// for each of the faults `refused`. Of the faults with one code, only the first 50 have a line.
 fn fault_lines(
     alloc: Global,
     source: &Source<'_>,
@@ -448,9 +449,10 @@ fn fault_lines(
     Ok(lines)
 }
 
-/// Returns the report of a file: the warnings `warned`, the faults `refused` in order, and the
-/// number of faults. For each fault, the report has a line with the name of the fault's code and
-/// the first line of the fault's message, and a line with the fault's location in the file.
+/// Returns the report of a file: the warnings `warned`, the faults `refused` in the order of the
+/// file, and the number of faults. For each fault, the report has two lines. One line contains the
+/// name of the fault's code and the first line of the fault's message. The other line contains the
+/// fault's location in the file.
 fn refusal_text(
     source: &Source<'_>,
     showing: Showing,
@@ -467,8 +469,8 @@ fn refusal_text(
     page.finish()
 }
 
-/// Returns the number of errors that are reported for the faults `refused`, or `usize::MAX` if
-/// there are more.
+/// Returns the number of errors that are reported for the faults `refused`, or `usize::MAX` if this
+/// number overflows.
 fn count_refused(refused: &[Refused]) -> usize
     ensures { result ≡ min (errors_in refused.now) (2 ^ 64 - 1) }
 {

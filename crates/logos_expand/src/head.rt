@@ -9,11 +9,11 @@ use logos_tables::Shape;
 use logos_token::error::Memory;
 use std::alloc::Global;
 
-/// Returns a first line, followed by `body`, the text of a file. The line names the shape `shape`
-/// and the file at `path`, from which the text was made.
+/// Returns a first line, followed by `body`, the text of a file. The line contains the name of the
+/// shape `shape` and the name of the file at `path`, from which the text was made.
 ///
-/// Returns `body` alone if it begins with U+FEFF, or with `#!` that no `[` follows. These must
-/// remain first.
+/// Returns `body` alone if it begins with U+FEFF, or with `#!` and no `[` after `#!`. Such a
+/// beginning must remain first.
 pub(crate) fn with_head(
     alloc: Global,
     path: &str,
@@ -41,8 +41,8 @@ fn head_of(alloc: Global, path: &str, shape: Shape, bytes: &[u8]) -> Result<Stri
     Ok(text)
 }
 
-/// Returns whether a line can be inserted before `bytes`, the text of a file: whether the text
-/// begins neither with U+FEFF nor with `#!` and a byte other than `[`.
+/// Returns whether a line can be inserted before `bytes`, the text of a file. This is the case if
+/// the text begins neither with U+FEFF nor with `#!` and a byte other than `[`.
 fn may_follow_line(bytes: &[u8]) -> bool
     ensures { result ≡ may_follow_line bytes.now }
 {
@@ -89,8 +89,8 @@ fn push_line(text: &mut String, name: &str, shape: &str) -> Result<(), Memory>
     Ok(())
 }
 
-/// Returns the file name `name` for the first line: `another file` if the name contains anything
-/// but printable ASCII, and otherwise the name itself.
+/// Returns the form of the file name `name` in the first line: `another file` if `name` contains a
+/// byte that is not printable ASCII, and otherwise `name` itself.
 fn shown_name(name: &str) -> &str
     ensures { result.now ≡ shown_name name.now }
 {
@@ -100,7 +100,8 @@ fn shown_name(name: &str) -> &str
     "another file"
 }
 
-/// Returns whether all of `bytes` are printable ASCII, from 32 to 126.
+/// Returns whether all of `bytes` are printable ASCII characters, which are the bytes from 32 to
+/// 126.
 fn is_plain(bytes: &[u8]) -> bool
     ensures { result ≡ is_plain bytes.now }
 {
@@ -112,7 +113,7 @@ fn is_plain(bytes: &[u8]) -> bool
     true
 }
 
-/// Returns whether a byte is printable ASCII, from 32 to 126.
+/// Returns whether a byte is a printable ASCII character, which is a byte from 32 to 126.
 fn is_printable(byte: u8) -> bool
     ensures { result ≡ is_printable byte }
 {
@@ -130,8 +131,8 @@ pub fn shape_name(shape: Shape) -> &'static str
     }
 }
 
-/// Returns the name of a shape of code: of the loop over the current state if `is_loop` is `true`,
-/// and of the function for each state otherwise.
+/// Returns the name of a shape other than tables: `state_machine` if `is_loop` is `true`, and
+/// `tailcall` otherwise.
 fn code_name(is_loop: bool) -> &'static str
     ensures { result.now ≡ code_name is_loop }
 {

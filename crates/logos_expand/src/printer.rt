@@ -1,5 +1,5 @@
-//! Prints the replacement of an enum: the enum without the derive and its attributes, and the
-//! implementation. Called by `expansion`.
+//! Prints the replacement of an enum: the enum without the derive and its attributes, followed by
+//! the implementation. Called by `expansion`.
 
 ghost use Rattle.std.specs.Prelude.{◌≡◌, ◌++◌, true, IfOk, OnOk, string_bytes};
 ghost use Rattle.logos_expand.specs.Views.{around_made, tokens_of, IsLaidOut, IsGuard, IsGuarded, are_blanks, guard_text, import_under, lexer_under, under, IsPrintedWith};
@@ -44,8 +44,9 @@ const ATTRIBUTES: &str = "\
 /// The line with the attribute that excludes an enum from rustfmt.
 const GUARD: &str = "#[rustfmt::skip]\n";
 
-/// Returns the replacement of an enum: the text of `left`, the remaining tokens of `source`,
-/// followed by LF and the implementation from `made`, laid out in lines.
+/// Returns the replacement of an enum: the text that `guarded` returns, followed by an LF and the
+/// implementation from `made`. The implementation is laid out in lines. `left` contains the tokens
+/// of `source` that remain in the enum.
 pub(crate) fn printed_with(
     alloc: Global,
     source: &str,
@@ -66,8 +67,8 @@ pub(crate) fn printed_with(
     Ok(text)
 }
 
-/// Returns the text of `left`, the remaining tokens of `source`. `#[rustfmt::skip]` precedes the
-/// text if rustfmt would otherwise change it.
+/// Returns the text of `left`, which contains the remaining tokens of `source`. `#[rustfmt::skip]`
+/// precedes the text if rustfmt would otherwise change the text.
 fn guarded(
     alloc: Global,
     source: &str,
@@ -82,8 +83,8 @@ fn guarded(
     Ok(text)
 }
 
-/// Returns the line that excludes the enum `written` from rustfmt, followed by the blanks before
-/// the enum in the file, or an empty text if rustfmt would not change the enum.
+/// Returns the line that excludes the enum `written` from rustfmt, followed by the blanks that
+/// precede the enum in the file. Returns an empty text if rustfmt would not change the enum.
 fn guard_of(alloc: Global, written: &str, site: Site<'_, '_>) -> Result<String, Memory>
     ensures { IfOk result (λ guard. IsGuard (string_bytes guard)) }
 {
@@ -94,8 +95,8 @@ fn guard_of(alloc: Global, written: &str, site: Site<'_, '_>) -> Result<String, 
     Ok(guard)
 }
 
-/// Appends to `text` the line that excludes an enum from rustfmt, followed by `margin`, the blanks
-/// before the enum.
+/// Appends to `text` the line that excludes an enum from rustfmt, followed by `margin`. `margin`
+/// must consist of the blanks before the enum.
 fn push_guard(text: &mut String, margin: &str) -> Result<(), Memory>
     ensures { OnOk result (string_bytes text.new
         ≡ string_bytes text.old ++ (guard_text ++ margin.now)) }
@@ -106,7 +107,8 @@ fn push_guard(text: &mut String, margin: &str) -> Result<(), Memory>
 }
 
 /// Returns whether `bytes` contain a comma followed by a closing parenthesis, with or without white
-/// space between the two. The removal of the last entry of a `derive` leaves such a comma.
+/// space between the comma and the parenthesis. The removal of the last entry of a `derive` leaves
+/// such a comma.
 fn has_last_comma(bytes: &[u8]) -> bool {
     let mut last = b' ';
     for byte in bytes {
@@ -144,7 +146,7 @@ fn margin_at(text: &str, offset: usize) -> &str
     }
 }
 
-/// Returns the text after the last LF of a text, or the whole text if it has no LF.
+/// Returns the text after the last LF of `text`, or all of `text` if `text` has no LF.
 fn last_line(text: &str) -> &str {
     match text.rsplit_once('\n') {
         Some((_, line)) => line,
@@ -199,9 +201,9 @@ fn notes_of(
     Ok(notes)
 }
 
-/// Returns the text `lexer` with its attributes. The import of `Logos` precedes the text if
-/// `by_name` is `true`. The import and `lexer` each have the `cfg` attributes of the enum with the
-/// tokens `left`.
+/// Returns the text `lexer` with the attributes of an implementation. The import of `Logos`
+/// precedes the text if `by_name` is `true`. Both the import and `lexer` have the `cfg` attributes
+/// of the enum with the tokens `left`.
 fn under(alloc: Global, by_name: bool, left: Tokens<'_, '_>, lexer: &str) -> Result<String, Memory>
     ensures { IfOk result (λ text.
         string_bytes text ≡ under by_name (tokens_of left.entry) lexer.now) }

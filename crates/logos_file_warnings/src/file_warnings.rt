@@ -1,5 +1,5 @@
-//! Collects the warnings of a file, and prints them as a report or as JSON. Used by `logos_cli`,
-//! `logos_expand` and `logos_show`.
+//! Functions that collect the warnings of a file, and print the warnings as a report or as JSON.
+//! Called by `logos_cli`, `logos_expand` and `logos_show`.
 
 ghost use Rattle.std.specs.Prelude.{◌≡◌, ◌++◌, ◌∷◌, All, IfOk, OnOk, [], map, string_bytes};
 ghost use Rattle.logos_file_warnings.specs.Imports.{AddsMissing, AddsMoved, AreOfLexer, AreOfText, AreWarnings, Gains, InReport, IsPassedOver, Shows, ShowsWarnings, denied_line, has_lexer, missing_line, missing_texts, moved, moved_span, reports_missing, shown_of, tokens_of, warnings_texts};
@@ -179,7 +179,8 @@ pub fn has_lexer(found: &[FoundEnum]) -> bool
     false
 }
 
-/// Returns the spans in the file of the enums in `found` that derive `Logos`, in order.
+/// Returns the spans in the file of the enums in `found` that derive `Logos`, in the order of
+/// `found`.
 fn spans_of(alloc: Global, found: &[FoundEnum]) -> Result<Vec<Span>, AllocError> {
     let mut spans = Vec::new(alloc);
     for one in found {
@@ -277,8 +278,8 @@ pub fn warning_lines(
     Ok(lines)
 }
 
-/// Returns the text of the warnings `warned` about the file `source`, which are denied. A report
-/// ends with a line stating that warnings are denied.
+/// Returns the text of the denied warnings `warned` about the file `source`. A report ends with a
+/// line stating that warnings are denied.
 ///
 /// # Errors
 ///
@@ -307,11 +308,11 @@ fn denied(report: String) -> Result<String, Memory>
     Ok(text)
 }
 
-/// Returns `bytes`, the bytes of a message, as a text.
+/// Returns the bytes `bytes` of a message as a text.
 ///
 /// # Errors
 ///
-/// Returns `Memory` if `bytes` are not UTF-8, which cannot happen with the bytes of a message.
+/// Returns `Memory` if `bytes` is not UTF-8, which cannot happen with the bytes of a message.
 pub fn text_of(bytes: Vec<u8>) -> Result<String, Memory>
     ensures { IfOk result (λ text. string_bytes text ≡ bytes.items) }
 {

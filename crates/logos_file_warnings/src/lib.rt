@@ -1,5 +1,5 @@
-//! Collects and prints the warnings of a file. Used by `logos_cli`, `logos_expand` and
-//! `logos_show`.
+//! Functions that collect and print the warnings of a file. Called by `logos_cli`, `logos_expand`
+//! and `logos_show`.
 
 #![tactic(auto)]
 

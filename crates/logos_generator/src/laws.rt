@@ -7,15 +7,17 @@ ghost use Rattle.logos_generator.specs.Imports.{IsInput, Rule, Item, Items, AreI
 use logos_code::action::Action;
 use logos_hir::leaf::LeafId;
 
-/// The spans of the items of maximal munch are nonempty, in order, and within the input.
+/// The spans of the items of maximal munch are nonempty and within the input, and no span begins
+/// before the end of the preceding one.
 pub fn items_are_in_order<C: Fn(LeafId, &[u8]) -> Action>(callback: &C)
     ensures { (rules : List Rule) (utf8 : Bool) (bytes : List ℕ) (from : ℕ) (items : List Item) →
         from ≤ length bytes → Items rules (answers_of C.Fn callback.now) utf8 bytes from items →
         AreInOrder (length bytes) from items }
 {}
 
-/// The spans of the items of maximal munch and of the matches without an item are nonempty.
-/// Together, they partition the input in order.
+/// The spans of the items of maximal munch and of the matches without an item are nonempty. From a
+/// point of the input on, each span begins where the preceding one ends, and the last one ends at
+/// the end of the input.
 pub fn items_part_the_input<C: Fn(LeafId, &[u8]) -> Action>(callback: &C)
     ensures { (rules : List Rule) (utf8 : Bool) (bytes : List ℕ) (from : ℕ) (items : List Item) →
         from ≤ length bytes → Items rules (answers_of C.Fn callback.now) utf8 bytes from items →

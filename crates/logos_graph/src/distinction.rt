@@ -9,7 +9,7 @@ use logos_reduce::rows::{END, WIDTH};
 use logos_reduce::table::{StateMarks, Table};
 use std::alloc::{AllocError, Global};
 
-/// Returns the state to which `bytes` lead from the state `s`, or `None` if they lead to no state.
+/// Returns the state to which `bytes` lead from the state `s`, or `None` if there is no such state.
 fn state_after(table: &Table, s: usize, bytes: &[u8]) -> Option<usize>
     requires { s < size table.now }
     ensures state { result ≡ state_after table.now (Some s) bytes.now }
@@ -22,8 +22,8 @@ fn state_after(table: &Table, s: usize, bytes: &[u8]) -> Option<usize>
     Some(at)
 }
 
-/// Returns the mark of the state `s`. If `at_end` is `true`, returns the mark of the state to which
-/// the end of the input leads from `s`, or `None` if the end leads to no state.
+/// Returns the marks of the state `s`. If `at_end` is `true`, returns the marks of the state to
+/// which the end of the input leads from `s`, or `None` if there is no such state.
 fn mark_with_end(table: &Table, s: usize, at_end: bool) -> Option<StateMarks>
     requires { s < size table.now }
     ensures { result ≡ mark_with_end table.now s at_end }
@@ -35,8 +35,8 @@ fn mark_with_end(table: &Table, s: usize, at_end: bool) -> Option<StateMarks>
     Some(table.mark(t))
 }
 
-/// Returns the mark of the state to which `bytes` lead from the state `s`. If `at_end` is `true`,
-/// the end of the input follows `bytes`. Returns `None` if there is no such state.
+/// Returns the marks of the state to which `bytes` lead from the state `s`, followed by the end of
+/// the input if `at_end` is `true`. Returns `None` if there is no such state.
 fn mark_after(table: &Table, s: usize, bytes: &[u8], at_end: bool) -> Option<StateMarks>
     requires { s < size table.now }
     ensures { result ≡ mark_after table.now s bytes.now at_end }
@@ -45,7 +45,7 @@ fn mark_after(table: &Table, s: usize, bytes: &[u8], at_end: bool) -> Option<Sta
     mark_with_end(table, t, at_end)
 }
 
-/// Returns whether two marks differ, or exactly one of them exists.
+/// Returns whether two marks differ, or whether exactly one of the marks exists.
 fn differ(one: Option<StateMarks>, other: Option<StateMarks>) -> bool
     ensures { IsTrue result ↔ (one ≢ other) }
 {
@@ -74,8 +74,7 @@ fn ordered(a: usize, b: usize) -> (usize, usize)
     if a < b { (a, b) } else { (b, a) }
 }
 
-/// Returns the number of the block that was made by the split that separated the states `s` and
-/// `t`.
+/// Returns the number of the block that was new when the states `s` and `t` were separated.
 fn parted_at(reduced: &Reduction, s: usize, t: usize) -> usize
     requires evidence { YieldsEvidence reduced.now }
     requires s_in { s < size reduced.now.table }
@@ -106,7 +105,7 @@ pub fn checks(reduced: &Reduction, s: usize, t: usize, bytes: &[u8], at_end: boo
 }
 
 /// Finds bytes that distinguish the states `s` and `t`, which must be different. Returns the bytes,
-/// and `true` if the end of the input follows the bytes. There are fewer bytes than states.
+/// and whether the end of the input follows the bytes. There are fewer bytes than states.
 ///
 /// # Errors
 ///

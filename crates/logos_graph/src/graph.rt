@@ -17,7 +17,7 @@ pub use logos_byte_class::byte_class::{ByteClass, Comparisons};
 use logos_hir::leaf::LeafId;
 pub use value::{Graph, States};
 
-/// The options of a graph.
+/// The options with which a graph is built.
 #[derive(Clone, Copy, Debug, PartialEq, Eq)]
 pub struct Config {
     /// Whether inputs are UTF-8, so that an error ends between characters.
@@ -37,7 +37,7 @@ impl State {
     }
 }
 
-/// The marks of a state: the leaves whose matches end at the state, or one byte before it.
+/// The marks of a state: the leaves whose matches end at the state, or one byte before the state.
 #[derive(Clone, Copy, Debug, PartialEq, Eq)]
 pub struct StateType {
     /// The leaf of the late mark, whose match ends one byte before the state, or `None` if there is
@@ -57,7 +57,7 @@ pub struct StateData {
     pub normal: Vec<(ByteClass, State)>,
     /// The target of the end of the input, or `None` if the end leads nowhere.
     pub eoi: Option<State>,
-    /// The states from which a byte or the end leads to this state, ascending and without
+    /// The states from which a byte or the end leads to this state, in ascending order and without
     /// duplicates. The equality of states ignores this field.
     pub backward: Vec<State>,
 }

@@ -64,7 +64,7 @@ fn raw_mark(leaves: &[Leaf<'_>], listed: &[usize]) -> StateMarks
     }
 }
 
-/// Returns the marks of all states of the automaton, in the order of their numbers.
+/// Returns the marks of all states of the automaton, in the order of the states.
 fn raw_marks(alloc: Global, leaves: &[Leaf<'_>], dfa: &Dfa) -> Result<Vec<StateMarks>, AllocError>
     ensures len { IfOk result (λ marks. vec_len marks ≡ length (dfa_of dfa.now).matches) }
     ensures marks { IfOk result (λ marks. (s : ℕ) → s < length (dfa_of dfa.now).matches →
@@ -92,7 +92,7 @@ fn raw_row(row: &ByteRow, end: u32) -> Row
     made
 }
 
-/// Returns the rows of all states of the automaton, in the order of their numbers.
+/// Returns the rows of all states of the automaton, in the order of the states.
 fn raw_rows(alloc: Global, dfa: &Dfa) -> Result<Rows, AllocError>
     requires total { IsTotal (dfa_of dfa.now) }
     requires few { length (dfa_of dfa.now).matches + 1 < 2 ^ 32 }

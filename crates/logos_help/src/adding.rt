@@ -9,8 +9,8 @@ use logos_report::{Clues, Helps, Part};
 use logos_token::error::{Errors, Memory, SpannedError};
 use logos_token::token::Span;
 
-/// The implementation of `Helps` that adds the help texts of this crate, for callers that are
-/// generic over `Helps`.
+/// The type that adds the help texts of this crate, for callers that accept any type that
+/// implements `Helps`.
 #[derive(Clone, Copy)]
 pub struct FaultHelps;
 
@@ -20,21 +20,22 @@ impl Helps for FaultHelps {
     }
 }
 
-/// Appends the help text for each fault in `errors` to `clues.helps`, in order. Appends `None` for
-/// a fault without a help text. `part` is the part of a file that has the faults. A report shows
-/// each help text under its fault.
+/// Appends the help text for each fault in `errors` to `clues.helps`, in the order of the faults.
+/// Appends `None` for a fault without a help text. `part` is the part of a file that has the
+/// faults. A report shows each help text under the fault.
 ///
 /// # Errors
 ///
-/// Returns `Memory` if memory runs out. Some of the help texts may then have been appended.
+/// Returns `Memory` if memory runs out. The help texts for only some of the faults may then have
+/// been appended.
 pub fn add_helps(part: Part<'_, '_>, errors: &Errors, clues: &mut Clues) -> Result<(), Memory>
     ensures { sizes_of clues.new ≡ sizes_of clues.old }
 {
     add_all(part, errors.list(), &mut clues.helps)
 }
 
-/// Appends the help text for each of `faults` to `helps`, in order. Appends `None` for a fault
-/// without a help text. `part` is the part of a file that has the faults.
+/// Appends the help text for each fault in `faults` to `helps`, in the order of the faults. Appends
+/// `None` for a fault without a help text. `part` is the part of a file that has the faults.
 fn add_all(
     part: Part<'_, '_>,
     faults: &[SpannedError],
@@ -46,8 +47,8 @@ fn add_all(
     Ok(())
 }
 
-/// Returns the text of a file at `span`, and the text after it. The offsets of `span` are relative
-/// to `part`. Each text is empty if the file has no such offsets.
+/// Returns the text of a file at `span`, and the text after the span. `span` is in bytes of `part`.
+/// If the offsets of one of the two texts are not in the file, this text is empty.
 fn sight_at<'t>(part: Part<'_, 't>, span: Span) -> Sight<'t> {
     Sight {
         text: part.text_at(span),

@@ -1,5 +1,5 @@
-//! Chooses the help text for a fault by its code. `docs/FAULTS.md` repeats the help texts, and
-//! `tests/lints/faults.py` compares the two. Used by `adding`.
+//! Chooses the help text for a fault according to the fault's code. `docs/FAULTS.md` repeats the
+//! help texts, and `tests/lints/faults.py` compares the copies. Used by `adding`.
 
 ghost use Rattle.std.specs.Prelude.{option_map};
 ghost use Rattle.logos_help.specs.Patterns.{IsHelp};
@@ -21,7 +21,7 @@ const RENAME: &str = "rename it: a name contains only ASCII letters, digits and 
 
 /// Returns the help text for `fault`, or `None` for a fault with the code `Previous`, which has no
 /// help text. The help text depends on the detail and the code of the fault, and on `sight`, the
-/// text at its span.
+/// text at the span of the fault.
 pub fn help_for(fault: &SpannedError, sight: Sight<'_>) -> Option<&'static str>
     ensures { IsHelp fault.now.detail (option_map (λ help. help.now) result) }
 {
@@ -76,7 +76,8 @@ fn help_for_escapes(sight: Sight<'_>) -> &'static str {
     }
 }
 
-/// Returns the help for a fault with the code `code`, regardless of the text at its span.
+/// Returns the help for a fault with the code `code`, regardless of the text at the span of the
+/// fault.
 fn help_for_code(code: FaultCode) -> &'static str {
     match code {
         FaultCode::NotAnEnum => "derive `Logos` only for an enum",
@@ -92,8 +93,8 @@ fn help_for_code(code: FaultCode) -> &'static str {
     }
 }
 
-/// Returns the help for a source that exceeds a limit: the limit, its unit, and a way to stay
-/// within it. For any other code, returns the result of `help_for_type`.
+/// Returns the help for a source that exceeds a limit. The help contains the limit, its unit, and a
+/// way to stay within the limit. For any other code, returns the result of `help_for_type`.
 fn help_for_limit(code: FaultCode) -> &'static str {
     match code {
         FaultCode::LimitSource => "a source has at most 16,777,216 bytes: split the enum",

@@ -1,5 +1,6 @@
-//! Chooses the help for a fault. The help is a sentence that depends on the code, on the kind of a
-//! pattern fault, and on the text at the fault. Used by the programs and the derive macro.
+//! Chooses the help for a fault. The help is a sentence that depends on the code of the fault, on
+//! the kind of a pattern fault, and on the text at the span of the fault. Used by the programs and
+//! the derive macro.
 
 #![tactic(auto)]
 

@@ -1,6 +1,6 @@
-//! Chooses the help text for a fault in a pattern, by its kind and by the bytes at the fault.
-//! `docs/FAULTS.md` repeats the help texts, and `tests/lints/faults.py` compares the two. Used by
-//! `codes`.
+//! Chooses the help text for a fault in a pattern, according to the kind of the fault and the bytes
+//! at the fault. `docs/FAULTS.md` repeats the help texts, and `tests/lints/faults.py` compares the
+//! copies. Used by `codes`.
 
 ghost use Rattle.std.specs.Prelude.{◌≡◌};
 ghost use Rattle.logos_help.specs.Patterns.{boundary_help, escape_help, escapes, flag_help, group_help, is_digit, looks_ahead, looks_back, opens_with, pattern_help, refers_back};
@@ -108,8 +108,8 @@ fn help_for_escape(front: PatternFront) -> &'static str
     }
 }
 
-/// Returns whether an escape looks like a backreference: a backslash and a digit other than `0`.
-/// Three digits do not look like one, because they are the number of a character.
+/// Returns whether an escape looks like a backreference, that is, whether its backslash is followed
+/// by a digit other than `0`, but not by three digits. Three digits are the number of a character.
 fn refers_back(front: PatternFront) -> bool
     ensures { result ≡ refers_back front }
 {
@@ -124,8 +124,8 @@ fn is_digit(byte: u8) -> bool
     (b'/' < byte) & (byte < b':')
 }
 
-/// Returns the help for a word boundary at the byte offset `at` in the pattern. The boundary is not
-/// needed at the beginning of the pattern.
+/// Returns the help for a word boundary at the byte offset `at` in the pattern. At the beginning of
+/// the pattern, where a boundary is not needed, the help is to remove the boundary.
 fn help_for_boundary(at: usize) -> &'static str
     ensures { result.now ≡ boundary_help at }
 {
@@ -162,8 +162,8 @@ fn looks_back(front: PatternFront) -> bool
     opens_with(front, b'<') & ((front.fourth == b'=') | (front.fourth == b'!'))
 }
 
-/// Returns the help for a pattern with a greedy dot. The help depends on the text of the pattern.
-/// No help contains a pattern with a greedy dot, unless it also contains `allow_greedy`.
+/// Returns the help for a pattern with a greedy dot. The help depends on the text of the pattern. A
+/// help that shows a pattern with a greedy dot also shows `allow_greedy`.
 pub(crate) fn help_for_dot(sight: Sight<'_>) -> &'static str {
     let pattern = between_quotes(sight.text);
     if is_block_comment(pattern) {
@@ -177,16 +177,16 @@ pub(crate) fn help_for_dot(sight: Sight<'_>) -> &'static str {
     }
 }
 
-/// Returns whether a pattern probably matches a block comment: whether it begins with `/\` or
+/// Returns whether a pattern probably matches a block comment. Such a pattern begins with `/\` or
 /// `/[*]`, contains `*`, and ends with `/`.
 fn is_block_comment(pattern: &str) -> bool {
     let begins = pattern.starts_with("/\\") | pattern.starts_with("/[*]");
     begins & pattern.contains('*') & pattern.ends_with('/')
 }
 
-/// Returns whether a pattern probably matches a text up to the end of the line: whether it ends
-/// with a greedy dot after a nonempty beginning, perhaps with a line end after the dot, and does
-/// not contain `(?s`.
+/// Returns whether a pattern probably matches a text up to the end of the line. Such a pattern ends
+/// with a greedy dot after a nonempty beginning, perhaps with an escape for LF after the dot, and
+/// does not contain `(?s`.
 fn is_to_line_end(pattern: &str) -> bool {
     if pattern.contains("(?s") {
         return false;
@@ -197,7 +197,9 @@ fn is_to_line_end(pattern: &str) -> bool {
     }
 }
 
-/// Returns a pattern without the `\n` or `\n?` at its end, or the whole pattern if it has neither.
+/// Returns a pattern without the escape for LF at its end, and without a `?` after this escape.
+/// Returns the whole pattern if the pattern has no such end. The escape consists of a backslash and
+/// `n`.
 fn without_line_end(pattern: &str) -> &str {
     let plain = pattern.strip_suffix("?").unwrap_or(pattern);
     match plain.strip_suffix("\\n") {
@@ -207,7 +209,7 @@ fn without_line_end(pattern: &str) -> &str {
 }
 
 /// Returns a pattern without the greedy dot at its end, or `None` if it does not end with a greedy
-/// dot. A greedy dot is a repetition of any character except LF, by `*` or `+`.
+/// dot. A greedy dot is a repetition of any character except LF with the operator `*` or `+`.
 fn without_dot(pattern: &str) -> Option<&str> {
     let Some(front) = pattern.strip_suffix("*") else {
         return match pattern.strip_suffix("+") {

@@ -1,5 +1,5 @@
-//! The text of a source at the span of a fault, and the text after the span. Used by `codes`,
-//! `patterns` and `sights`.
+//! Defines the texts on which the help for a fault depends: the text of a source at the span of the
+//! fault, and the text after the span. Used by `codes`, `patterns` and `sights`.
 
 /// The text of a source at the span of a fault, and the text after the span.
 #[derive(Clone, Copy, Debug)]

@@ -1,5 +1,5 @@
-//! Chooses the help text for a fault by the text at its span. `docs/FAULTS.md` repeats the help
-//! texts, and `tests/lints/faults.py` compares the two. Used by `codes`.
+//! Chooses the help text for a fault according to the text at the fault's span. `docs/FAULTS.md`
+//! repeats the help texts, and `tests/lints/faults.py` compares the copies. Used by `codes`.
 
 use crate::sight::{Sight, between_quotes};
 
@@ -24,8 +24,8 @@ pub(crate) fn help_for_nested(sight: Sight<'_>) -> &'static str {
     }
 }
 
-/// Returns whether an argument of `logos(..)` probably has a colon instead of `=`: whether it has a
-/// colon, does not have `::`, and does not begin with `skip`.
+/// Returns whether an argument of `logos(..)` probably has a colon instead of `=`. Such an argument
+/// has a colon, does not have `::`, and does not begin with `skip`.
 fn has_colon(text: &str) -> bool {
     text.contains(':') & !text.contains("::") & !text.starts_with("skip")
 }
@@ -76,8 +76,8 @@ pub(crate) fn help_for_named(sight: Sight<'_>) -> &'static str {
     }
 }
 
-/// Returns whether a text begins with a bar and contains a second bar, so that no comma has cut the
-/// parameters of a closure in two.
+/// Returns whether a text begins with a bar and contains a second bar. In such a text, no comma has
+/// split the parameters of a closure.
 fn has_parameters(text: &str) -> bool {
     match text.strip_prefix("|") {
         Some(rest) => rest.contains('|'),

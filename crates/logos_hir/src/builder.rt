@@ -1,5 +1,4 @@
-//! Builds trees and simplifies them at the same time. Called by the simplifier and `logos_syntax`
-//! for each node.
+//! Builds trees in their simplest form. Called by the simplifier and `logos_syntax` for each node.
 
 ghost use Rattle.std.specs.Prelude.{◌≡◌, false, map, ◌++◌, Option, Some, IfOk, OnOk};
 ghost use Rattle.logos_hir.specs.Views.{look, capture, tree_of, set_of, literal_of, one_char_of, one_byte_of, is_byteless, is_most, cut, times, repetition_of, parts_of, in_a_row, part_text, add_text, add_part, add_parts, is_literal_tree, are_apart};
@@ -11,7 +10,7 @@ use crate::sets::RangeSet;
 pub use branches::alternation;
 use std::alloc::{AllocError, Global};
 
-/// Returns the tree that matches `bytes` in order, or `Hir::Empty` if `bytes` is empty.
+/// Returns the literal with the bytes `bytes`, or `Hir::Empty` if `bytes` is empty.
 pub fn literal(bytes: Vec<u8>) -> Hir
     ensures { tree_of result ≡ literal_of bytes.items }
 {
@@ -110,7 +109,7 @@ fn cut(max: Option<u32>) -> u32
     }
 }
 
-/// Returns a repetition of `body`, or `body` itself if it is repeated exactly once.
+/// Returns a repetition of `body`, or `body` itself if `body` is repeated exactly once.
 fn times(
     alloc: Global,
     min: u32,
@@ -132,8 +131,8 @@ fn times(
 }
 
 /// Returns the simplest form of a repetition of `body`. Returns `Hir::Empty` if `max` is 0. If
-/// `body` contains neither a literal nor a class, both counts are limited to at most 1. Returns
-/// `body` itself if both counts are then 1.
+/// `body` contains neither a literal nor a class, each count is replaced with the minimum of the
+/// count and 1. Returns `body` itself if both counts are then 1.
 ///
 /// # Errors
 ///
@@ -243,8 +242,8 @@ fn push_all(parts: &mut Vec<Hir>, inner: Vec<Hir>) -> Result<(), AllocError>
     push_parts(parts, inner)
 }
 
-/// Appends the parts of the tree `part` to `parts`: no parts for `Hir::Empty`, the parts of a
-/// concatenation, and otherwise the tree itself. Neighboring literals become one.
+/// Appends the tree `part` to `parts`. Appends the parts of a concatenation one by one, and appends
+/// nothing for `Hir::Empty`. Neighboring literals become one.
 pub(crate) fn push_flat(parts: &mut Vec<Hir>, part: Hir) -> Result<(), AllocError>
     ensures { OnOk result (map tree_of parts.new.items ≡
         add_parts (map tree_of parts.old.items) (parts_of (tree_of part))) }

@@ -1,5 +1,5 @@
-//! Closes sets of characters under changes of case. Called by `logos_syntax` where a pattern
-//! ignores case.
+//! Adds to sets of characters the other cases of their members. Called by `logos_syntax` for
+//! patterns that ignore case.
 
 ghost use Rattle.std.specs.Prelude.{◌≡◌, ℕ, ◌+◌, ◌<◌, ◌≤◌, ◌^◌, ◌||◌, length, IfOk, OnOk};
 ghost use Rattle.logos_hir.specs.Views.{IsNonDecreasingBy, fold_pairs, in_range, in_ranges, fold_case, fold_ascii, Adds, in_values, in_image, shift, pairs, set_of};

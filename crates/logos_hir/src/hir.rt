@@ -1,5 +1,5 @@
-//! The tree of a pattern, with names from regex-syntax. `builder` builds trees, and
-//! `logos_positions` and `logos_automaton` read them.
+//! Defines the tree of a pattern, with names from regex-syntax. `builder` builds trees, and
+//! `logos_positions` and `logos_automaton` read trees.
 
 ghost use Rattle.std.specs.Prelude.{◌≡◌};
 
@@ -54,24 +54,24 @@ pub enum Class {
 pub enum Hir {
     /// The empty string.
     Empty,
-    /// These bytes, in order.
+    /// Exactly these bytes.
     Literal(Vec<u8>),
     /// One member of the class.
     Class(Class),
     /// The empty string at a point of the input at which the look-around assertion holds.
     Look(Look),
-    /// The body `sub` at least `min` times, and at most `max` times if `max` is not `None`. More
-    /// repetitions are preferred if `greedy` is `true`, and fewer otherwise.
+    /// The body `sub` at least `min` times, and at most `max` times if `max` is not `None`. If
+    /// `greedy` is `true`, more repetitions are preferred to fewer, and otherwise fewer to more.
     Repetition {
         min: u32,
         max: Option<u32>,
         greedy: bool,
         sub: Box<Hir>,
     },
-    /// The matches of the body of a capture group.
+    /// A match of the body of a capture group.
     Capture(Box<Hir>),
-    /// All parts of a concatenation, one after another.
+    /// A match of each part of a concatenation, one after another.
     Concat(Vec<Hir>),
-    /// One of the branches of an alternation.
+    /// A match of one branch of an alternation.
     Alternation(Vec<Hir>),
 }

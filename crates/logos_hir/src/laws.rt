@@ -1,5 +1,5 @@
-//! Laws of look-around assertions, and of trees and their default priority. No code calls these
-//! functions: the contract of each is a proved law.
+//! Laws of look-around assertions, of trees, and of the default priority of trees. No code calls
+//! these functions: the contract of each is a proved law.
 
 ghost use Rattle.std.specs.Prelude.{
   ◌≡◌,

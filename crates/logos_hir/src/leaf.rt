@@ -1,6 +1,6 @@
 //! The numbers that identify leaves. Automata, graphs, codes and lexers refer to leaves by these
 //! numbers.
 
-/// The number of a leaf.
+/// The number that identifies a leaf.
 #[derive(Clone, Copy, Debug, PartialEq, Eq)]
 pub struct LeafId(pub usize);

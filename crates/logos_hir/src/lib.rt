@@ -1,6 +1,6 @@
-//! The trees of patterns: their nodes, their builders, their measures, and the sets of characters
-//! and bytes that they contain. `logos_syntax` builds trees, and `logos_automaton` and
-//! `logos_positions` read them.
+//! Defines the trees of patterns, with functions that build and measure trees, and the sets of
+//! characters and bytes in trees. `logos_syntax` builds trees, and `logos_automaton` and
+//! `logos_positions` read trees.
 
 #![tactic(auto)]
 

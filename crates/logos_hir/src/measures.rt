@@ -1,5 +1,5 @@
 //! Computes measures of trees, such as the default priority of a leaf, without allocating memory.
-//! Called by `logos_pattern` after it has read a pattern.
+//! Called by `logos_pattern` for each pattern that has been read.
 
 ghost use Rattle.std.specs.Prelude.{◌≡◌, ℕ, ◌+◌, ◌*◌, min, nat_lt, length, map};
 ghost use Rattle.logos_hir.specs.Views.{list_all, chars, is_utf8, pointwise, trees, pairs, tree_of, class_tree, value, sum_of_values, least_value, text_size, fitted, is_same, is_text, all_text, is_all, is_dot, has_greedy_dot, some_greedy_dot};
@@ -29,8 +29,8 @@ fn text_size(bytes: &[u8]) -> usize
 
 // In the following functions `None` is a number that does not fit `usize`.
 
-/// Returns the product of `count` and `value`, or `None` if it does not fit `usize`. The product
-/// with 0 is 0, even if `value` is `None`.
+/// Returns the product of `count` and `value`, or `None` if `value` is `None` or the product does
+/// not fit in a `usize`. The product with 0 is 0, even if `value` is `None`.
 fn times(count: u32, value: Option<usize>) -> Option<usize>
     ensures { (n : ℕ) → value ≡ fitted n → result ≡ fitted (count * n) }
 {
@@ -40,14 +40,15 @@ fn times(count: u32, value: Option<usize>) -> Option<usize>
     (count as usize).checked_mul(value?)
 }
 
-/// Returns the sum of two values, or `None` if it does not fit `usize`.
+/// Returns the sum of two values, or `None` if one of them is `None` or the sum does not fit in a
+/// `usize`.
 fn plus(a: Option<usize>, b: Option<usize>) -> Option<usize>
     ensures { (m n : ℕ) → a ≡ fitted m → b ≡ fitted n → result ≡ fitted (m + n) }
 {
     a?.checked_add(b?)
 }
 
-/// Returns the lesser of two values. `None` is greater than each number.
+/// Returns the lesser of two values. `None` is greater than any number.
 fn least(a: Option<usize>, b: Option<usize>) -> Option<usize>
     ensures { (m n : ℕ) → a ≡ fitted m → b ≡ fitted n → result ≡ fitted (min m n) }
 {
@@ -58,7 +59,7 @@ fn least(a: Option<usize>, b: Option<usize>) -> Option<usize>
     }
 }
 
-/// Returns the default priority of a tree, or `None` if it does not fit `usize`.
+/// Returns the default priority of a tree, or `None` if the priority does not fit in a `usize`.
 #[cycle(priority)]
 pub fn priority(hir: &Hir) -> Option<usize>
     ensures { result ≡ fitted (value (tree_of hir.now)) }
@@ -75,7 +76,7 @@ pub fn priority(hir: &Hir) -> Option<usize>
 }
 
 /// Returns the priority of a concatenation: the sum of the priorities of `parts`, or `None` if a
-/// priority or the sum does not fit `usize`.
+/// priority or the sum does not fit in a `usize`.
 #[cycle(priority)]
 fn sum_of_priorities(parts: &[Hir]) -> Option<usize>
     ensures { result ≡ fitted (sum_of_values (trees (map tree_of parts.now))) }
@@ -88,7 +89,7 @@ fn sum_of_priorities(parts: &[Hir]) -> Option<usize>
 }
 
 /// Returns the priority of an alternation: the least priority of `branches`, 0 if there are no
-/// branches, or `None` if no priority fits `usize`.
+/// branches, or `None` if no priority fits in a `usize`.
 #[cycle(priority)]
 fn least_priority(branches: &[Hir]) -> Option<usize>
     ensures { result ≡ fitted (least_value (trees (map tree_of branches.now))) }
@@ -175,9 +176,9 @@ fn is_dot(hir: &Hir) -> bool
     }
 }
 
-/// Returns whether a tree contains a greedy repetition of a dot without an upper bound. A dot is a
-/// class of all characters or of all bytes, of all but LF, or of all but CR and LF. Searches
-/// captures, concatenations and alternations, but not the bodies of repetitions.
+/// Returns whether a tree contains a greedy, unbounded repetition of a dot. A dot is a class of all
+/// characters or of all bytes, of all but LF, or of all but CR and LF. Searches captures,
+/// concatenations and alternations, but not the bodies of repetitions.
 pub fn check_for_greedy_all(hir: &Hir) -> bool
     ensures { result ≡ has_greedy_dot (tree_of hir.now) }
 {

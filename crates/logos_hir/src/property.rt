@@ -134,8 +134,7 @@ fn ranges_of(alloc: Global, runs: &[(u32, u32)]) -> Result<Vec<Range>, AllocErro
     Ok(ranges)
 }
 
-/// Returns the set of the characters in the ranges `runs`. Surrogates in the ranges are not
-/// members.
+/// Returns the set of the characters in the ranges `runs`. Surrogates in the ranges are left out.
 fn from_runs(alloc: Global, runs: &[(u32, u32)]) -> Result<RangeSet, AllocError>
     ensures { (p : ℕ → Bool) → HasExactly runs.now p →
         IfOk result (λ set. set_of set ≡ only_chars p) }

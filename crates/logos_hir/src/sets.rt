@@ -67,8 +67,8 @@ fn push_gap(out: &mut Vec<Range>, first: u32, end: u32, last: u32) -> Result<(),
     Ok(())
 }
 
-/// Returns the characters up to `last` that are in none of the ranges. The ranges must be sorted by
-/// their first numbers.
+/// Returns the characters that are at most `last` and in none of the ranges. The ranges must be
+/// sorted by their first numbers.
 fn gaps(alloc: Global, ranges: &[Range], last: u32) -> Result<Vec<Range>, AllocError>
     requires ranges { AreRanges (pairs ranges.now) }
     requires sorted { IsNonDecreasingBy (λ r. r.first) ranges.now }
@@ -164,7 +164,7 @@ impl RangeSet {
         Ok(RangeSet { ranges })
     }
 
-    /// Returns the characters up to `last` that are not members.
+    /// Returns the characters that are at most `last` and not in the set.
     ///
     /// # Errors
     ///
@@ -176,7 +176,7 @@ impl RangeSet {
         Ok(RangeSet { ranges })
     }
 
-    /// Returns the members up to U+00FF.
+    /// Returns the members that are at most U+00FF.
     ///
     /// # Errors
     ///
@@ -213,7 +213,7 @@ impl RangeSet {
         ranges
     }
 
-    /// Returns the members of this set and of `other`.
+    /// Returns the characters that are in this set or in `other`.
     ///
     /// # Errors
     ///

@@ -1,6 +1,6 @@
-//! Builds unsimplified trees, and simplifies each tree at the end. Each node is therefore moved and
-//! examined only once, regardless of the number of groups around it. `logos_syntax` calls
-//! `simplify` once, at the end of a pattern.
+//! Builds unsimplified trees, and simplifies whole trees. Because a tree is simplified only once,
+//! each node is moved and examined only once, regardless of the number of groups around the node.
+//! `logos_syntax` calls `simplify` at the end of each pattern.
 
 ghost use Rattle.std.specs.Prelude.{◌≡◌, ◌++◌, map, flat_map, IfOk, OnOk};
 ghost use Rattle.logos_hir.specs.Views.{trees, capture as capture_of, tree_of, parts_of, branches_of, concat_of, alternation_of, repetition_of, simplest, all_simplest, simplest_tree, add_parts, fits_of};

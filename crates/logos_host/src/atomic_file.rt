@@ -1,4 +1,4 @@
-//! Writes a file of the system entirely or not at all: writes a new file beside the old file, and
+//! Writes a file entirely or not at all. `write_whole` writes a new file beside the old file, and
 //! then renames the new file to the name of the old file. Used by `Disk`.
 
 use crate::paths::file_name;
@@ -8,17 +8,17 @@ use std::os::unix::fs::{MetadataExt, PermissionsExt};
 use std::rt::Files;
 use std::{fs, io};
 
-/// The minimum length of a chain of links that is refused.
+/// The length from which a chain of symbolic links is refused.
 const LINKS: usize = 40;
 
 /// The bits of a file's mode with the permissions to read, write and execute the file.
 const RIGHTS: u32 = 0o777;
 
 /// Writes `bytes` to the file at `path` entirely or not at all. If there is no such file, first
-/// creates the missing folders of its path. The created folders remain if a later step fails.
+/// creates the missing folders of `path`. The created folders remain if a later step fails.
 ///
-/// If `path` is the path of a link, replaces the target of the link, or creates the target if it
-/// does not exist. Writes to a device or a pipe directly.
+/// If `path` is the path of a link, replaces the target of the link, or creates the target if the
+/// target does not exist. Writes to a device or a pipe directly.
 pub(crate) fn write_whole<R: Files + AllocGlobal + Clone + Drop>(
     rt: &R,
     path: &str,
@@ -36,7 +36,7 @@ pub(crate) fn write_whole<R: Files + AllocGlobal + Clone + Drop>(
 }
 
 /// Returns the path of the missing file to which the links at `path` lead, or `path` if it is not
-/// the path of a link. Fails if there are `LINKS` links or more.
+/// the path of a link. Fails if the chain has `LINKS` or more links.
 fn target_of<R: Files + AllocGlobal>(rt: &R, path: &str) -> io::Result<String> {
     let mut target = String::from_str(rt.alloc(), path)?;
     for _ in 0..LINKS {
@@ -88,8 +88,8 @@ fn keep_owner<R: Files>(rt: &R, path: &str, old: &Metadata) -> io::Result<()> {
     fs::set_permissions(rt, path, permissions)
 }
 
-/// Creates the missing file at `path` with the content `bytes`, and the missing folders of its
-/// path.
+/// Creates the missing file at `path` with the content `bytes`. First creates the missing folders
+/// of `path`.
 fn create_file<R: Files + AllocGlobal + Clone + Drop>(
     rt: &R,
     path: &str,
@@ -101,9 +101,9 @@ fn create_file<R: Files + AllocGlobal + Clone + Drop>(
     remove_after_error(rt, beside.as_str(), done)
 }
 
-/// Writes `bytes` to a new file beside the file at `path`, and returns the path of the new file:
-/// `path`, the process id and `.new`. First removes the new files that terminated processes left
-/// beside the file at `path`.
+/// Writes `bytes` to a new file beside the file at `path`. Returns the path of the new file, which
+/// consists of `path`, the process id and `.new`. First removes the new files that terminated
+/// processes left beside the file at `path`.
 fn write_beside<R: Files + AllocGlobal + Clone + Drop>(
     rt: &R,
     path: &str,
@@ -140,8 +140,8 @@ fn remove_leftovers<R: Files + AllocGlobal + Clone + Drop>(rt: &R, path: &str) -
     Ok(())
 }
 
-/// Removes the file `other` in the folder `folder` if a terminated process left it as a new file
-/// beside the file `name`. Ignores an error of the removal.
+/// Removes the file `other` in the folder `folder` if a terminated process left `other` as a new
+/// file beside the file `name`. Ignores an error of the removal.
 fn remove_leftover<R: Files + AllocGlobal>(
     rt: &R,
     name: &str,
@@ -161,8 +161,8 @@ fn remove_leftover<R: Files + AllocGlobal>(
     Ok(())
 }
 
-/// Returns the process id in `other` if it is the name of a new file beside the file `name`, and
-/// `None` otherwise.
+/// Returns the process id in `other` if `other` is the name of a new file beside the file `name`,
+/// and `None` otherwise.
 fn process_of<'n>(name: &str, other: &'n str) -> Option<&'n str> {
     let process = other
         .strip_prefix(name)?
@@ -186,7 +186,8 @@ fn remove_after_error<R: Files>(rt: &R, path: &str, done: io::Result<()>) -> io:
     done
 }
 
-/// Returns the folder of a file: its path before the last `/`, or an empty path if it has no `/`.
+/// Returns the path of the folder of the file at `path`: the part of `path` before the last `/`, or
+/// an empty path if `path` has no `/`.
 fn folder_of(path: &str) -> &str {
     match path.rsplit_once('/') {
         Some((folder, _)) => folder,

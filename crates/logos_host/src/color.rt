@@ -1,5 +1,5 @@
-//! Defines the setting for colors, and its names in `--color`. Used by `logos_cli`, `logos_options`
-//! and `logos_screen`.
+//! Defines the setting for colors and its values in the option `--color`. Used by `logos_cli`,
+//! `logos_options` and `logos_screen`.
 
 ghost use Rattle.std.specs.Prelude.{◌≡◌};
 ghost use Rattle.logos_host.specs.Colors.{color_named, has_colors};
@@ -16,8 +16,8 @@ pub enum Color {
 }
 
 impl Color {
-    /// Returns whether a text has colors. `is_terminal` is `true` if the text is written to a
-    /// terminal.
+    /// Returns whether a text has colors under this condition. `is_terminal` is `true` if the text
+    /// is written to a terminal.
     pub fn is_on(self, is_terminal: bool) -> bool
         ensures { result ≡ has_colors self is_terminal }
     {

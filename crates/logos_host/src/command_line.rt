@@ -34,7 +34,7 @@ fn arguments_of<R: Env + AllocGlobal>(rt: &R) -> io::Result<Vec<String>> {
     Ok(arguments)
 }
 
-/// Returns the failure for arguments that cannot be read because of an error of the kind `why`.
+/// Returns the failure for arguments that cannot be read. `why` is the kind of the error.
 fn unreadable(why: ErrorKind) -> Failure<'static>
     ensures memory { (status_of result ≡ 3) ↔ (why ≡ ErrorKind.OutOfMemory) }
     ensures known { (status_of result ≡ 2) ⊎ (status_of result ≡ 3) }

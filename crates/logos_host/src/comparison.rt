@@ -1,5 +1,5 @@
-//! Declares the comparison of files with bytes, and with each other. Used by `logos_cli` for
-//! `--check`, by `logos_options` for `--version`, and by `logos_show`.
+//! Declares the trait `ComparableFiles`, which compares files with bytes and with each other. Used
+//! by `logos_cli` for `--check`, by `logos_options` for `--version`, and by `logos_show`.
 
 ghost use Rattle.std.specs.Prelude.{◌≡◌, ℕ, List, Bool, ⊤, IfOk};
 ghost use Rattle.logos_host.specs.declared.comparison.Occurrence.{Occurrence as OccurrenceValue};
@@ -10,7 +10,7 @@ use std::alloc::AllocError;
 /// The result of comparing a file with bytes.
 #[derive(Clone, Copy, Debug, PartialEq, Eq)]
 pub enum Occurrence {
-    /// The file has exactly these bytes.
+    /// The content of the file consists of exactly these bytes.
     Same,
     /// The file has other bytes, cannot be read, or is a folder, a device or a pipe.
     Differs,
@@ -27,7 +27,7 @@ pub trait ComparableFiles: Files {
     // Holds if two paths lead to one file.
     ghost same_finds: { Self → List ℕ → List ℕ → Bool → Type 0 } = { λ _ _ _ _. ⊤ };
 
-    /// Compares the file at `path` with `bytes`. Reads the file only if it is a regular file.
+    /// Compares the file at `path` with `bytes`. Reads the file only if the file is a regular file.
     ///
     /// # Errors
     ///
@@ -47,7 +47,7 @@ pub trait ComparableFiles: Files {
     /// Returns `AllocError` if memory runs out.
     fn found_bytes(&self, path: &str) -> Result<Vec<u8>, AllocError>;
 
-    /// Returns whether two paths lead to one regular file, directly or through links.
+    /// Returns whether both paths lead to one regular file, directly or through links.
     fn is_same_file(&self, one: &str, other: &str) -> bool
         ensures { Self.same_finds self.now one.now other.now result };
 }

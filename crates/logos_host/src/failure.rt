@@ -1,4 +1,5 @@
-//! The failures of a program, and their exit statuses. Used by all three programs.
+//! Defines the failures of a program, and the exit status of each failure. Used by `logos`,
+//! `logos_cli` and `logos_show`.
 
 ghost use Rattle.std.specs.IoError.{error_kind};
 ghost use Rattle.std.specs.Prelude.{◌≡◌, ◌≢◌};
@@ -14,7 +15,8 @@ use std::io::ErrorKind;
 /// The reason why a program ends with an exit status other than 0.
 #[derive(Drop)]
 pub enum Failure<'w> {
-    /// The arguments are invalid for the reason `what`. `word` is the invalid argument, or empty.
+    /// The arguments are invalid for the reason `what`. `word` is the invalid argument, or empty if
+    /// the reason concerns no single argument.
     Misuse {
         what: &'static str,
         word: &'w str,
@@ -29,12 +31,13 @@ pub enum Failure<'w> {
     OwnOutput(&'w str),
     /// The source is refused, for the reasons in this text.
     Refused(String),
-    /// The input is not UTF-8. `valid_up_to` is the length in bytes of its longest UTF-8 prefix.
+    /// The input is not UTF-8. `valid_up_to` is the length in bytes of the longest UTF-8 prefix of
+    /// the input.
     NotUtf8 {
         valid_up_to: usize,
     },
-    /// The file at this path is not UTF-8. `valid_up_to` is the length in bytes of its longest
-    /// UTF-8 prefix.
+    /// The file at this path should be text, but is not UTF-8. `valid_up_to` is the length in bytes
+    /// of the longest UTF-8 prefix of the file.
     NotText {
         path: &'w str,
         valid_up_to: usize,
@@ -45,7 +48,7 @@ pub enum Failure<'w> {
     Write(&'w str, Reason),
     /// Standard output cannot be written.
     Output,
-    /// The reader of standard output has closed it.
+    /// The reader of standard output has closed standard output.
     Closed,
     /// Memory ran out.
     Memory,
@@ -76,8 +79,13 @@ impl From<Memory> for Failure<'_> {
 }
 
 impl Failure<'_> {
-    /// Returns the exit status: 1 if the source is refused or the input is not UTF-8, 2 if the
-    /// arguments are invalid or name the input as the output, and 3 for any other failure.
+    /// Returns the exit status of the failure.
+    ///
+    /// The exit status is:
+    ///
+    /// - 1 if the source is refused or the input is not UTF-8.
+    /// - 2 if the arguments are invalid or name the input as the output.
+    /// - 3 for any other failure.
     pub fn status(&self) -> u8
         ensures { result ≡ status_of self.now }
     {

@@ -1,23 +1,23 @@
-//! Declares the interface to files by their paths. `Disk` and `SourceDisk` implement the interface,
-//! and the tests have further implementations.
+//! Declares the trait `Files`, which reads and writes files by their paths. `Disk` and `SourceDisk`
+//! implement the trait, and so do types of the tests.
 
 ghost use Rattle.std.specs.Prelude.{ℕ, List, ⊤, IfOk, OnOk};
 
 use crate::reason::Reason;
 
-/// The error of an operation on a file.
+/// The error of reading or writing a file.
 #[derive(Clone, Copy, Debug, PartialEq, Eq)]
 pub enum FileError {
     /// The file was not read or written, for this reason.
     Failed(Reason),
-    /// The file should be text, but is not UTF-8. `valid_up_to` is the length in bytes of its
-    /// longest UTF-8 prefix.
+    /// The file should be text, but is not UTF-8. `valid_up_to` is the length in bytes of the
+    /// longest UTF-8 prefix of the file.
     NotText { valid_up_to: usize },
     /// Memory ran out.
     Memory,
 }
 
-/// Files that are read and written by their paths.
+/// Access to files by their paths.
 pub trait Files {
     // Relates the files before a read, the path, all bytes that are read, and the files after it.
     ghost read_yields: { Self → List ℕ → List ℕ → Self → Type 0 } = { λ _ _ _ _. ⊤ };

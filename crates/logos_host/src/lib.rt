@@ -1,5 +1,5 @@
-//! Connects the three programs with the system: reads their arguments and files, writes their
-//! output and files, and reports their failures.
+//! Connects `logos`, `logos_cli` and `logos_show` with the system: reads their arguments and files,
+//! writes their output and files, and reports their failures.
 
 #![tactic(auto)]
 

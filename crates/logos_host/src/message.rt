@@ -1,4 +1,5 @@
-//! Writes the messages of failures, with their reasons. Used by `logos_cli` and `logos_show`.
+//! Writes the messages of failures, with the reasons that the system reports. Used by `logos_cli`
+//! and `logos_show`.
 
 ghost use Rattle.std.specs.Prelude.{◌++◌, OnOk, codes, decimal};
 ghost use Rattle.logos_host.specs.Views.{Appends, hint_line, message_of, misuse_line, path_line, shown_char, shown_text};
@@ -22,8 +23,8 @@ pub fn report<E: Write>(failure: &Failure<'_>, usage: &str, err: &mut E) -> io::
     err.flush()
 }
 
-/// Writes the message of a failure. The message ends with `usage` for invalid arguments and unknown
-/// options.
+/// Writes the message of a failure. For invalid arguments and unknown options, the message ends
+/// with `usage`.
 fn write_message<E: Write>(failure: &Failure<'_>, usage: &str, err: &mut E) -> io::Result<()>
     ensures { OnOk result (Appends (E.contents err.old) (E.contents err.new)
         (message_of usage.now failure.now)) }
@@ -54,8 +55,8 @@ fn write_message<E: Write>(failure: &Failure<'_>, usage: &str, err: &mut E) -> i
     }
 }
 
-/// Writes the message for the file at `path`, which is UTF-8 only up to the byte offset
-/// `valid_up_to`.
+/// Writes the message that the file at `path` is not UTF-8. `valid_up_to` is the length in bytes of
+/// the longest UTF-8 prefix of the file.
 fn write_not_text<E: Write>(path: &str, valid_up_to: usize, err: &mut E) -> io::Result<()>
     ensures { OnOk result (Appends (E.contents err.old) (E.contents err.new)
         (codes "error: cannot read " ++ (shown_text path.now
@@ -87,8 +88,8 @@ fn write_shown<E: Write>(text: &str, err: &mut E) -> io::Result<()>
     Ok(())
 }
 
-/// Writes a character in a form that cannot control a terminal: a tab as four spaces, and any other
-/// character in the form that `occur_in` returns.
+/// Writes a character in a form that cannot control a terminal. The form of a tab is four spaces.
+/// The form of any other character is the character that `occur_in` returns.
 fn write_shown_char<E: Write>(character: char, err: &mut E) -> io::Result<()>
     ensures { OnOk result (Appends (E.contents err.old) (E.contents err.new)
         (shown_char character)) }
@@ -100,7 +101,7 @@ fn write_shown_char<E: Write>(character: char, err: &mut E) -> io::Result<()>
     write!(err, "{shown}")
 }
 
-/// Writes the line with the reason why the arguments are invalid, and the usage.
+/// Writes a line with the reason why the arguments are invalid, followed by the usage.
 fn write_misuse<E: Write>(what: &str, word: &str, usage: &str, err: &mut E) -> io::Result<()>
     ensures { OnOk result (Appends (E.contents err.old) (E.contents err.new)
         (misuse_line what.now word.now ++ usage.now)) }
@@ -109,8 +110,8 @@ fn write_misuse<E: Write>(what: &str, word: &str, usage: &str, err: &mut E) -> i
     err.write_all(usage.as_bytes())
 }
 
-/// Writes the line with `what`, the reason why the arguments are invalid. Appends the invalid
-/// argument `word` to the line unless `word` is empty.
+/// Writes a line with the reason why the arguments are invalid. `what` is the reason. The line ends
+/// with the invalid argument `word` unless `word` is empty.
 fn write_misuse_line<E: Write>(what: &str, word: &str, err: &mut E) -> io::Result<()>
     ensures { OnOk result (Appends (E.contents err.old) (E.contents err.new)
         (misuse_line what.now word.now)) }
@@ -123,8 +124,8 @@ fn write_misuse_line<E: Write>(what: &str, word: &str, err: &mut E) -> io::Resul
     writeln!(err, "`")
 }
 
-/// Writes the message for the unknown option `word`, a line that suggests the option `nearest`
-/// unless `nearest` is empty, and the usage.
+/// Writes the message for the unknown option `word`, followed by the usage. Before the usage, a
+/// line suggests the option `nearest` unless `nearest` is empty.
 fn write_unknown<E: Write>(word: &str, nearest: &str, usage: &str, err: &mut E) -> io::Result<()>
     ensures { OnOk result (Appends (E.contents err.old) (E.contents err.new)
         (misuse_line (codes "unknown option") word.now ++ (hint_line nearest.now ++ usage.now))) }
@@ -134,7 +135,7 @@ fn write_unknown<E: Write>(word: &str, nearest: &str, usage: &str, err: &mut E) 
     err.write_all(usage.as_bytes())
 }
 
-/// Writes the line that suggests the option `nearest`, or nothing if `nearest` is empty.
+/// Writes a line that suggests the option `nearest`, or nothing if `nearest` is empty.
 fn write_hint<E: Write>(nearest: &str, err: &mut E) -> io::Result<()>
     ensures { OnOk result (Appends (E.contents err.old) (E.contents err.new)
         (hint_line nearest.now)) }

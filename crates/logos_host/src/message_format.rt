@@ -1,10 +1,10 @@
-//! Defines the formats of messages, and their names in `--message-format`. Used by `logos_cli`,
-//! `logos_options`, `logos_show` and the crates that report warnings.
+//! Defines the formats of messages and their names in the option `--message-format`. Used by
+//! `logos_cli`, `logos_options`, `logos_show` and the crates that report warnings.
 
 ghost use Rattle.std.specs.Prelude.{◌≡◌};
 ghost use Rattle.logos_host.specs.Formats.{format_named};
 
-/// The format of messages.
+/// The format of messages: for people or for programs.
 #[derive(Clone, Copy, Debug, PartialEq, Eq)]
 pub enum MessageFormat {
     /// A report that people read.

@@ -8,8 +8,8 @@ use crate::failure::Failure;
 use std::io;
 use std::io::Write;
 
-/// Writes the plain message of a failure to `err`, and flushes the writer. For invalid arguments,
-/// unknown options, and an output that is the input, the message is `usage`.
+/// Writes the plain message of a failure to `err`, and flushes the writer. The message is `usage`
+/// if the arguments are invalid, an option is unknown, or the output is the input.
 ///
 /// # Errors
 ///
@@ -42,7 +42,7 @@ fn write_plainly<E: Write>(failure: &Failure<'_>, usage: &str, err: &mut E) -> i
     }
 }
 
-/// Writes the message for the file at `path`, which cannot be read.
+/// Writes the message that the file at `path` cannot be read.
 fn write_unread<E: Write>(path: &str, err: &mut E) -> io::Result<()>
     ensures { OnOk result (Appends (E.contents err.old) (E.contents err.new)
         (codes "cannot read " ++ (path.now ++ codes "\n"))) }

@@ -1,4 +1,4 @@
-//! Reads whole files. Used by all three programs for sources and inputs.
+//! Reads whole files. Used by `logos`, `logos_cli` and `logos_show` for sources and inputs.
 
 ghost use Rattle.std.specs.Prelude.{◌≡◌, IfErr, IfOk, string_bytes};
 ghost use Rattle.logos_host.specs.Views.{IsNoMisuse, IsUnread, status_of};
@@ -28,8 +28,11 @@ pub fn read_bytes<'w, F: Files>(path: &'w str, files: &mut F) -> Result<Vec<u8>,
 ///
 /// # Errors
 ///
-/// Returns `Read` if the file cannot be read, `NotText` if it is not UTF-8, and `Memory` if memory
-/// runs out.
+/// Returns:
+///
+/// - `Read` if the file cannot be read.
+/// - `NotText` if the file is not UTF-8.
+/// - `Memory` if memory runs out.
 pub fn read_text<'w, F: Files>(path: &'w str, files: &mut F) -> Result<String, Failure<'w>>
     ensures read { IfOk result (λ text.
         F.read_yields files.old path.now (string_bytes text) files.new) }

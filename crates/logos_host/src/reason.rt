@@ -13,13 +13,13 @@ pub enum Reason {
     Missing,
     /// The path is the path of a folder.
     Folder,
-    /// A part of the path is not a folder.
+    /// A component of the path is not a folder.
     NoFolder,
     /// The system denies the permission to read or write the file.
     Permission,
-    /// The links of the path form a cycle, or there are too many links.
+    /// The symbolic links of the path form a cycle, or there are too many of them.
     Links,
-    /// A name of the path is too long.
+    /// The path contains a name that is too long.
     LongName,
     /// The disk is full, or a quota is used up.
     Full,
@@ -27,10 +27,9 @@ pub enum Reason {
     TooLarge,
     /// The file system is read-only.
     ReadOnly,
-    /// The name of the new file that is written beside the old file, and then replaces it, is
-    /// taken.
+    /// The name of the new file that is to replace the old file is taken.
     Taken,
-    /// The system reports another reason.
+    /// Any other reason.
     Other,
 }
 

@@ -1,4 +1,5 @@
-//! Implements the files of the system for programs that read sources. Used by `logos_cli`.
+//! Implements the traits `Files` and `ComparableFiles` for `SourceDisk`, with which programs read
+//! sources. Used by `logos_cli`.
 
 use crate::comparison::{ComparableFiles, Occurrence};
 use crate::files::{FileError, Files};
@@ -8,13 +9,14 @@ use std::io::Read;
 use std::rt::Files as Runtime;
 use std::{fs, io};
 
-/// The maximum number of bytes that are read from a file. It exceeds the maximum length of a source
-/// by five, so that a text of this length is still too long after its last character is removed.
+/// The maximum number of bytes that are read from a file. This number exceeds the maximum length of
+/// a source by five. A text of this length is therefore too long even after its last character is
+/// removed.
 const MAX_READ: u64 = 16_777_221;
 
-/// The files that a runtime can access, as sources. At most `MAX_READ` bytes of a file are read,
-/// which is enough to detect that the file is too long for a source. An endless device is therefore
-/// refused as too long.
+/// The files that a runtime can access, read as sources. At most `MAX_READ` bytes of a file are
+/// read. These bytes suffice to detect that the file is too long for a source. An endless device is
+/// therefore refused as too long.
 #[derive(Drop)]
 pub struct SourceDisk<'r, R> {
     /// The runtime.
@@ -48,8 +50,8 @@ impl<R: Runtime + AllocGlobal + Clone + Drop> ComparableFiles for SourceDisk<'_,
     }
 }
 
-/// Returns all bytes of the file at `path` if there are fewer than `MAX_READ`, otherwise a prefix
-/// that is too long for a source and ends with a whole character.
+/// Returns all bytes of the file at `path` if the file has fewer than `MAX_READ` bytes. Otherwise,
+/// returns a prefix that is too long for a source and ends with a whole character.
 fn read_front<R: Runtime + AllocGlobal>(rt: &R, path: &str) -> io::Result<Vec<u8>> {
     let mut bytes = Vec::new(rt.alloc());
     fs::File::open(rt, path)?
@@ -61,8 +63,8 @@ fn read_front<R: Runtime + AllocGlobal>(rt: &R, path: &str) -> io::Result<Vec<u8
     Ok(bytes)
 }
 
-/// Removes the last character of `bytes`, which may be incomplete: its continuation bytes and its
-/// first byte, but at most four bytes.
+/// Removes the last character of `bytes`, which may be incomplete. Removes the continuation bytes
+/// and the first byte of the character, but at most four bytes.
 fn cut_last(bytes: &mut Vec<u8>) {
     for _ in 0..4 {
         match bytes.pop() {

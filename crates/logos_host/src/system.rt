@@ -1,4 +1,5 @@
-//! Implements the files of the system. Used by `source_disk`, `logos_program` and `logos_show`.
+//! Implements the traits `Files` and `ComparableFiles` for `Disk`. Used by `source_disk`,
+//! `logos_program` and `logos_show`.
 
 use crate::atomic_file::write_whole;
 use crate::comparison::{ComparableFiles, Occurrence};
@@ -78,12 +79,12 @@ fn bytes_at<R: Runtime + AllocGlobal>(rt: &R, path: &str) -> Result<Vec<u8>, All
     }
 }
 
-/// Returns whether `one` and `other` are metadata of one regular file.
+/// Returns whether `one` and `other` are the metadata of one regular file.
 fn is_same(one: &Metadata, other: &Metadata) -> bool {
     one.is_file() && one.dev() == other.dev() && one.ino() == other.ino()
 }
 
-/// Returns the error for an operation on a file that failed with `error`.
+/// Returns the error of an operation on a file that failed with `error`.
 pub(crate) fn file_error(error: &io::Error) -> FileError {
     match error.kind() {
         ErrorKind::OutOfMemory => FileError::Memory,

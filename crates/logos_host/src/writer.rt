@@ -1,4 +1,5 @@
-//! Writes to standard output, directly or in blocks, and to files. Used by all three programs.
+//! Writes to standard output, directly or in blocks, and to files. Used by `logos`, `logos_cli` and
+//! `logos_show`.
 
 ghost use Rattle.std.specs.Prelude.{◌≡◌, ◌<◌, [], IfErr, OnOk, vec_capacity, vec_len};
 ghost use Rattle.logos_host.specs.Views.{Appends, AppendsFront, IsNoMisuse, IsOutputFailure, IsUnwritten, status_of};
@@ -8,11 +9,11 @@ use crate::files::Files;
 use std::io;
 use std::io::Write;
 
-/// Writes all bytes to `out`, and flushes the writer.
+/// Writes all of `bytes` to `out`, and flushes the writer.
 ///
 /// # Errors
 ///
-/// Returns the error of the writer. Then a part of the bytes may have been written.
+/// Returns the error of the writer. Then a part of `bytes` may have been written.
 pub fn write_through<O: Write>(bytes: &[u8], out: &mut O) -> io::Result<()>
     ensures { OnOk result (Appends (O.contents out.old) (O.contents out.new) bytes.now) }
 {
@@ -20,12 +21,12 @@ pub fn write_through<O: Write>(bytes: &[u8], out: &mut O) -> io::Result<()>
     out.flush()
 }
 
-/// Writes bytes to `out`, which is standard output, and flushes the writer.
+/// Writes `bytes` to `out`, which must be standard output, and flushes the writer.
 ///
 /// # Errors
 ///
 /// Returns `Closed` if the reader has closed the output, and `Output` if writing fails for another
-/// reason. Then a part of the bytes may have been written.
+/// reason. Then a part of `bytes` may have been written.
 pub fn print_bytes<'w, O: Write>(bytes: &[u8], out: &mut O) -> Result<(), Failure<'w>>
     ensures printed { OnOk result (Appends (O.contents out.old) (O.contents out.new) bytes.now) }
     ensures failed { IfErr result IsOutputFailure }
@@ -38,7 +39,7 @@ pub fn print_bytes<'w, O: Write>(bytes: &[u8], out: &mut O) -> Result<(), Failur
     }
 }
 
-/// Replaces the content of the file at `path` with `bytes`. Creates the file if there is none.
+/// Replaces the content of the file at `path` with `bytes`. Creates the file if it does not exist.
 ///
 /// # Errors
 ///
@@ -59,7 +60,8 @@ pub fn write_file<'w, F: Files>(
     }
 }
 
-/// Writes a block to `out` and empties the block if it has at least `length` bytes.
+/// Writes `block` to `out` and empties `block`. Does nothing if `block` has fewer than `length`
+/// bytes.
 ///
 /// # Errors
 ///
@@ -79,7 +81,7 @@ pub fn write_full<O: Write>(block: &mut Vec<u8>, length: usize, out: &mut O) -> 
     write_block(block, out)
 }
 
-/// Writes a block to `out`, and empties it.
+/// Writes `block` to `out`, and empties `block`.
 ///
 /// # Errors
 ///

@@ -1,4 +1,4 @@
-//! Writes bytes as preformatted text of a page. Used by `spans`.
+//! Appends bytes to a page as preformatted text. Used by `spans`.
 
 ghost use Rattle.std.specs.Prelude.{◌≡◌, ◌<◌};
 ghost use Rattle.logos_html.specs.Imports.{Gains, byte_escape, flowing_byte, flowing_bytes, flowing_char, flowing_others, flowing_text, hex_digit};
@@ -6,9 +6,9 @@ ghost use Rattle.logos_html.specs.Imports.{Gains, byte_escape, flowing_byte, flo
 use crate::html::Html;
 use std::str;
 
-/// Appends bytes as preformatted text. Bytes that are UTF-8 are appended as characters. Otherwise,
-/// ASCII is appended as characters, and every other byte as its escape. The picture of each LF is
-/// followed by a line end.
+/// Appends `bytes` as preformatted text. If `bytes` are UTF-8, appends their characters. Otherwise,
+/// appends each ASCII byte as a character, and every other byte as its escape. Each LF appears as
+/// its symbol, followed by a line end.
 pub(crate) fn push_bytes(html: &mut Html, bytes: &[u8])
     ensures { Gains (flowing_bytes bytes.now) html.old html.new }
 {
@@ -27,7 +27,7 @@ fn push_flowing(html: &mut Html, text: &str)
     }
 }
 
-/// Appends a character of preformatted text, and a line end after LF.
+/// Appends `character` as preformatted text, followed by a line end if `character` is LF.
 fn push_flowing_char(html: &mut Html, character: char)
     ensures { Gains (flowing_char character) html.old html.new }
 {
@@ -35,8 +35,8 @@ fn push_flowing_char(html: &mut Html, character: char)
     html.push_line_end(character);
 }
 
-/// Appends bytes that are not UTF-8 as preformatted text: ASCII as characters, every other byte as
-/// its escape.
+/// Appends bytes that are not UTF-8 as preformatted text: each ASCII byte as a character, and every
+/// other byte as its escape.
 fn push_others(html: &mut Html, bytes: &[u8])
     ensures { Gains (flowing_others bytes.now) html.old html.new }
 {
@@ -45,7 +45,8 @@ fn push_others(html: &mut Html, bytes: &[u8])
     }
 }
 
-/// Appends a byte of preformatted text: ASCII as a character, every other byte as its escape.
+/// Appends a byte as preformatted text: an ASCII byte as a character, and any other byte as its
+/// escape.
 fn push_flowing_byte(html: &mut Html, byte: u8)
     ensures { Gains (flowing_byte byte) html.old html.new }
 {

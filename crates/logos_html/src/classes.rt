@@ -1,12 +1,13 @@
-//! Writes sets of bytes in a short form, as in a pattern. Used by `states` and `drawing`.
+//! Writes sets of bytes as ranges in brackets, like classes in a pattern. Used by `states` and
+//! `drawing`.
 
 use crate::html::Html;
 use logos_graph::graph::ByteClass;
 use logos_page::Page;
 use std::alloc::{AllocError, Global};
 
-/// Appends the first `most` ranges of a set of bytes in brackets, and the number of the remaining
-/// ranges.
+/// Appends the first `most` ranges of the set `class` in brackets. If the set has more ranges, also
+/// appends the number of the remaining ranges.
 ///
 /// # Errors
 ///

@@ -1,4 +1,5 @@
-//! Describes items with the lines that `--at` prints for their starts. Used by `document`.
+//! Describes each item of an input by the lines that `--at` prints for the start of the item. Used
+//! by `document`.
 
 ghost use Rattle.std.specs.Prelude.{◌≡◌, ◌+◌, ◌≤◌, IfOk, drop, length, map, string_bytes};
 ghost use Rattle.logos_html.specs.Views.{AllStart, AreDescribed, IsBytes, IsDescribed, IsDescription, IsEnough, IsGraphOf, described_of, item_of, items_of, rules_of, start_of};
@@ -14,10 +15,10 @@ use logos_machine::machine::Item;
 use logos_page::Page;
 use std::alloc::{AllocError, Global};
 
-/// The maximum number of steps for the descriptions of a page.
+/// The maximum number of steps for making the descriptions of a page.
 const MOST: usize = 268_435_456;
 
-/// The number of steps for reading or writing a byte.
+/// The number of steps that are counted for reading or writing a byte.
 const BYTE: usize = 64;
 
 /// The maximum number of bytes that are read for one description.
@@ -27,7 +28,8 @@ const LONGEST: usize = 65_536;
 #[derive(Drop)]
 pub(crate) struct Described<'i> {
     pub(crate) item: Item<'i>,
-    /// The lines that describe the item, or an empty text if they add nothing to the item's label.
+    /// The lines that describe the item, or an empty text if the lines would add nothing to the
+    /// item's label.
     pub(crate) description: String,
 }
 
@@ -39,8 +41,8 @@ pub(crate) struct Subject<'a, 's> {
     pub(crate) bytes: &'a [u8],
 }
 
-/// A budget of steps for the descriptions of a page. It bounds the size of the descriptions and the
-/// time for making them.
+/// A budget of steps for the descriptions of a page. The budget bounds the size of the descriptions
+/// and the time for making the descriptions.
 #[derive(Clone, Copy)]
 pub(crate) struct Budget {
     left: usize,
@@ -49,7 +51,7 @@ pub(crate) struct Budget {
     pub(crate) end: Option<usize>,
 }
 
-/// Returns an unspent budget.
+/// Returns a budget of `MOST` steps.
 pub(crate) fn new_budget() -> Budget {
     Budget {
         left: MOST,
@@ -57,7 +59,8 @@ pub(crate) fn new_budget() -> Budget {
     }
 }
 
-/// Returns `items` with their descriptions. The steps for the descriptions are taken from `budget`.
+/// Returns each of `items` with its description. The steps for the descriptions are taken from
+/// `budget`.
 ///
 /// # Errors
 ///
@@ -115,8 +118,8 @@ fn description_of(
 }
 
 /// Returns the lines that `--at` prints for the offset `from` of an input: the matches that start
-/// at this offset, and the partial matches if no leaf matches. Only the bytes before the offset
-/// `from + count` are read. They must suffice to decide which leaves match.
+/// at this offset, and the partial matches if no leaf matches. Reads only the bytes before the
+/// offset `from + count`. These bytes must suffice to decide which leaves match.
 ///
 /// # Errors
 ///
@@ -143,9 +146,9 @@ fn answer_of(
     Ok(text)
 }
 
-/// Returns whether `text`, the lines about an item, adds nothing to the item's label: whether it
-/// has no more lines than `usual_lines` returns. The steps for the lines are taken from `budget`.
-/// `count` is the number of bytes that were read for the lines.
+/// Returns whether `text`, the lines about an item, adds nothing to the item's label. This is the
+/// case if `text` has no more lines than `usual_lines` returns. The steps for the lines are taken
+/// from `budget`. `count` is the number of bytes that were read for the lines.
 fn is_usual(
     subject: Subject<'_, '_>,
     budget: &mut Budget,
@@ -163,9 +166,9 @@ fn is_usual(
     false
 }
 
-/// Returns the number of steps for the partial matches at an error, or 0 for a match. The states
-/// are visited for each leaf, and the location in each of the `lines` lines is counted from the
-/// beginning of the input.
+/// Returns the number of steps for the partial matches at an error, or 0 for a match. The search
+/// for partial matches visits each state for each leaf. Each of the `lines` lines after the first
+/// contains a location, which is counted from the beginning of the input.
 fn steps_at(subject: Subject<'_, '_>, item: Item<'_>, lines: usize) -> usize {
     match item {
         Item::Token { .. } => 0,
@@ -193,8 +196,8 @@ fn close(budget: &mut Budget, from: usize) {
     }
 }
 
-/// Returns the maximum number of lines about an item that add nothing to its label: one line for
-/// the verdict, and one for the match unless the item is an error.
+/// Returns the maximum number of lines about an item that add nothing to the label of the item: one
+/// line for the verdict, and one for the match unless the item is an error.
 fn usual_lines(item: Item<'_>) -> usize {
     match item {
         Item::Token { .. } => 2,

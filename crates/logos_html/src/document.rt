@@ -1,4 +1,5 @@
-//! Assembles the page of a lexer from its head, its sections and its end. Used by `logos_show`.
+//! Assembles the page of a lexer: the head, the sections and the end of the page. Used by
+//! `logos_show`.
 
 ghost use Rattle.std.specs.Prelude.{◌≡◌, ◌++◌, IfErr, IfOk, IfSome, map, string_bytes};
 ghost use Rattle.logos_html.specs.Views.{AreDescribed, Begins, HasMarked, IsMarked, IsNoMisuse, described_of, emits, items_of, shown};
@@ -21,7 +22,7 @@ use std::alloc::{AllocError, Global};
 /// The maximum number of bytes of an input that a page shows.
 const SHOWN: usize = 65_536;
 
-/// A lexer, with the facts about its enum that its page shows.
+/// A lexer, with the information about its enum that is shown on the page of the lexer.
 #[derive(Clone, Copy)]
 pub struct LexerPage<'p, 's> {
     /// The name of the enum.
@@ -30,7 +31,7 @@ pub struct LexerPage<'p, 's> {
     pub path: &'p str,
     /// The line of the name in the file, counted from 1.
     pub line: usize,
-    /// The rows of the lexer's leaves, in order.
+    /// The rows of the lexer's leaves, in the order of the leaves' numbers.
     pub rows: &'p [LeafRow<'p>],
     pub graph: &'p Graph<'s>,
     pub code: &'p Code<'s>,
@@ -110,9 +111,9 @@ fn joined(front: String, middle: &str, rest: &str) -> Result<String, AllocError>
     Ok(whole)
 }
 
-/// Returns the front of a page: the page up to the marked text of the input, or up to the section
-/// of the states if there is no input. If `described` is `Some`, items that start at this offset or
-/// after it have no description.
+/// Returns the front of a page: everything before the marked text of the input, or before the
+/// section of the states if there is no input. If `described` is `Some`, items that start at or
+/// after this offset have no description.
 fn front_of(
     alloc: Global,
     page: LexerPage<'_, '_>,
@@ -128,8 +129,7 @@ fn front_of(
     html.finish()
 }
 
-/// Returns the shown front of an input as HTML in which the shown bytes of each of `items` are
-/// marked.
+/// Returns the shown front of an input as HTML, with the shown bytes of each of `items` marked.
 fn marked_of(
     alloc: Global,
     page: LexerPage<'_, '_>,
@@ -152,8 +152,8 @@ fn marked_of(
     html.finish()
 }
 
-/// Returns the rest of a page: the page after the marked text of the input, or from the section of
-/// the states on if there is no input.
+/// Returns the rest of a page: everything after the marked text of the input. If there is no input,
+/// the rest begins with the section of the states.
 fn rest_of(
     alloc: Global,
     page: LexerPage<'_, '_>,
@@ -169,8 +169,8 @@ fn rest_of(
     html.finish()
 }
 
-/// Appends the end of the section of the input, if there is an input, and the section of the
-/// states.
+/// Appends the section of the states, preceded by the end of the section of the input if there is
+/// an input.
 fn push_input_states(
     alloc: Global,
     html: &mut Html,
@@ -188,8 +188,8 @@ fn push_input_states(
     push_states(alloc, html, page.graph, states, Some(&entries))
 }
 
-/// Appends the head of the page, and its body up to the first section. `has_input` is `true` if the
-/// page shows an input.
+/// Appends the head of the page, and the body of the page up to the first section. `has_input` is
+/// `true` if the page shows an input.
 fn push_head(html: &mut Html, page: LexerPage<'_, '_>, has_input: bool) {
     html.push_markup(
         "<!DOCTYPE html>
@@ -232,8 +232,8 @@ fn push_navigation(html: &mut Html, has_input: bool) {
 }
 
 /// Returns the end of the shown front of an input, as an offset in bytes. An input of at most
-/// `SHOWN` bytes is shown completely. Otherwise, the end is `SHOWN`, or up to 3 bytes less so that
-/// no UTF-8 character is split.
+/// `SHOWN` bytes is shown completely. Otherwise, the end is `SHOWN`, or at most 3 less so that no
+/// UTF-8 character is split.
 fn end_of(bytes: &[u8]) -> usize {
     if bytes.len() <= SHOWN {
         return bytes.len();
@@ -254,8 +254,9 @@ fn before_continuation(bytes: &[u8], at: usize) -> usize {
     }
 }
 
-/// Appends the beginning of the section of an input, up to the text of the input. The text is shown
-/// up to the offset `end`. If `described` is `Some`, items from this offset on have no description.
+/// Appends the beginning of the section of an input, which precedes the text of the input. The text
+/// is shown before the offset `end`. If `described` is `Some`, items from this offset on have no
+/// description.
 fn push_input_head(html: &mut Html, input: PageInput<'_>, end: usize, described: Option<usize>) {
     html.push_markup(
         "<section id=\"text\" aria-labelledby=\"text-title\">

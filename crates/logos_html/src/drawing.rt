@@ -1,4 +1,4 @@
-//! Draws a small graph in SVG. Used by `document`.
+//! Draws a graph with at most 60 states in SVG. Used by `document`.
 
 use crate::classes::push_class;
 use crate::html::Html;
@@ -13,21 +13,21 @@ const DRAWN: usize = 60;
 /// The maximum number of byte ranges that are shown beside an edge.
 const RANGES: usize = 2;
 
-/// The horizontal distance between the states of neighboring columns.
+/// The horizontal distance between the centers of states in neighboring columns.
 const WIDE: usize = 170;
 
 const HIGH: usize = 100;
 
-/// The distance of the outermost states from the borders of the drawing.
+/// The distance between the centers of the outermost states and the borders of the drawing.
 const MARGIN: usize = 70;
 
 /// The radius of the ring of a state.
 const RADIUS: usize = 20;
 
-/// The distance of the control points of a curve from the states that it connects.
+/// The distance of a curve from the states that the curve connects, measured at its control points.
 const DEEP: usize = 60;
 
-/// The horizontal distance of a label from the state to which its edge leads.
+/// The horizontal distance between the label of an edge and the target of the edge.
 const BEFORE: usize = 66;
 
 /// A point of a drawing, relative to the upper left corner.
@@ -37,8 +37,8 @@ struct Dot {
     y: usize,
 }
 
-/// The form of an edge. It depends on the target: a state on the right, the same state, another
-/// state in the same column, or a state on the left.
+/// The form of an edge: to a state on the right, to the state itself, to another state in the same
+/// column, or to a state on the left.
 #[derive(Clone, Copy)]
 enum Bend {
     Forward,
@@ -51,7 +51,7 @@ enum Bend {
 ///
 /// # Errors
 ///
-/// Returns `AllocError` if memory runs out. Then a part may have been appended.
+/// Returns `AllocError` if memory runs out. Then a part of the section may have been appended.
 pub(crate) fn push_drawing(
     alloc: Global,
     html: &mut Html,
@@ -81,7 +81,7 @@ fn push_too_large(html: &mut Html, count: usize) {
     html.push_markup(" states, which the table lists.</p>\n");
 }
 
-/// Appends the drawing of a graph, and the sentence that explains it.
+/// Appends the drawing of a graph, and the sentence that explains the drawing.
 fn push_graph(
     alloc: Global,
     html: &mut Html,
@@ -180,7 +180,7 @@ fn bend_of(from: Dot, to: Dot) -> Bend {
     Bend::Aside
 }
 
-/// Appends the line of an edge. `head` is the beginning of its markup.
+/// Appends the line of an edge. `head` is the beginning of the line's markup.
 fn push_line(html: &mut Html, from: Dot, to: Dot, head: &'static str) {
     html.push_markup(head);
     match bend_of(from, to) {
@@ -228,7 +228,7 @@ fn push_back(html: &mut Html, from: Dot, to: Dot) {
     push_point(html, " ", to.x, to.y.saturating_add(RADIUS + 2));
 }
 
-/// Appends the text `head`, and the coordinates of a point of a curve.
+/// Appends the text `head`, followed by the coordinates of a point of a curve.
 fn push_point(html: &mut Html, head: &'static str, x: usize, y: usize) {
     html.push_markup(head);
     html.push_number(x);
@@ -263,7 +263,7 @@ fn middle(one: usize, other: usize) -> usize {
     (one / 2).saturating_add(other / 2)
 }
 
-/// Appends the start tag of a text at the point `at`.
+/// Appends the start tag of a label at the point `at`.
 fn push_label_start(html: &mut Html, at: Dot) {
     html.push_markup("<text class=\"t\" x=\"");
     html.push_number(at.x);
@@ -272,7 +272,7 @@ fn push_label_start(html: &mut Html, at: Dot) {
     html.push_markup("\">");
 }
 
-/// Appends the state with the number `number`: its ring, a second ring if it has a mark, its
+/// Appends the state with the number `number`: its ring, a second ring if the state has a mark, the
 /// number, and the name of the marked leaf.
 fn push_node(
     html: &mut Html,

@@ -11,9 +11,9 @@ use logos_machine::machine::{Item, Lexer};
 use logos_token::token::Span;
 use std::alloc::{AllocError, Global};
 
-/// Returns the first items of an input, in order, up to the first item that ends at the offset
-/// `most` or after it. Returns all items if there is no such item. Each match of a leaf other than
-/// a skip is an item.
+/// Returns the first items of an input, from the start of the input through the first item that
+/// ends at or after the offset `most`. Returns all items if there is no such item. Each match of a
+/// leaf other than a skip is an item.
 ///
 /// # Errors
 ///
@@ -42,8 +42,8 @@ pub(crate) fn first_items<'i>(
     }
 }
 
-/// Returns the next items of a lexer, up to the first item that ends at the offset `most` or after
-/// it. Returns all remaining items if there is no such item.
+/// Returns the next items of a lexer, through the first item that ends at or after the offset
+/// `most`. Returns all remaining items if there is no such item.
 fn next_items<'i, C: Fn(LeafId, &[u8]) -> Action>(
     alloc: Global,
     lexer: &mut Lexer<'_, '_, 'i, C>,

@@ -1,5 +1,6 @@
 //! Builds HTML from markup and text. Markup comes from constants, and each character of other text
-//! passes through `push_char`. Used by all modules that write parts of a page.
+//! passes through `push_char`. Used by `bytes`, `classes`, `document`, `drawing`, `leaves`, `spans`
+//! and `states`.
 
 ghost use Rattle.std.specs.Prelude.{◌≡◌, ◌↔◌, [], true, false, IfOk, IsOk, IsTrue, decimal, string_bytes};
 ghost use Rattle.logos_html.specs.Views.{Gains, escaped_char, escaped_line_char, escaped_lines, escaped_text, line_end};
@@ -8,8 +9,8 @@ use logos_page::Page;
 use std::alloc::{AllocError, Global};
 use std::marker::Model;
 
-/// HTML to which markup and text are appended. It records whether memory ran out, so that only
-/// `finish` can fail.
+/// HTML to which markup and text are appended. The value records whether memory ran out, so that
+/// only `finish` can fail.
 #[derive(Drop)]
 pub struct Html {
     page: Page,
@@ -24,7 +25,7 @@ impl Model for Html {
 }
 
 impl Html {
-    /// Returns empty HTML.
+    /// Returns an `Html` without markup and text.
     pub fn new(alloc: Global) -> Html
         ensures { result ≡ record { text = []; is_colored = false; is_whole = true } }
     {
@@ -41,8 +42,8 @@ impl Html {
         self.page.push(markup);
     }
 
-    /// Appends a character as text: as a character reference if the character would be markup, and
-    /// in its shown form otherwise.
+    /// Appends `character` as text: as a character reference if `character` would otherwise be
+    /// markup, and in its shown form if not.
     pub fn push_char(&mut self, character: char)
         ensures { Gains (escaped_char character) self.old self.new }
     {
@@ -65,8 +66,8 @@ impl Html {
         }
     }
 
-    /// Appends lines of text, with their line ends. No character is read as markup, even in the
-    /// value of an attribute.
+    /// Appends a text of several lines, with the line ends. No character is read as markup, even in
+    /// the value of an attribute.
     pub fn push_lines(&mut self, text: &str)
         ensures { Gains (escaped_lines text.now) self.old self.new }
     {
@@ -75,7 +76,8 @@ impl Html {
         }
     }
 
-    /// Appends a character of lines: LF unchanged, and any other character as text.
+    /// Appends a character of a text of several lines: LF unchanged, and any other character as
+    /// text.
     fn push_line_char(&mut self, character: char)
         ensures { Gains (escaped_line_char character) self.old self.new }
     {

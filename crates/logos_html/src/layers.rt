@@ -1,5 +1,5 @@
-//! Assigns a cell of a drawing to each state. The column of a state is its distance from the root.
-//! Used by `drawing`.
+//! Assigns each state of a graph to a cell of a drawing. The column of a state is its distance from
+//! the root. Used by `drawing`.
 
 use logos_graph::graph::StateData;
 use std::alloc::{AllocError, Global};
@@ -54,8 +54,8 @@ fn next_row(filled: &mut Vec<usize>, column: usize) -> usize {
     0
 }
 
-/// Adds the cell of the next state to `layers`, and increases the numbers of columns and rows if
-/// the cell is beyond them.
+/// Adds the cell of the next state to `layers`. Increases the numbers of columns and rows in
+/// `layers` if the cell is outside of these columns and rows.
 fn add_cell(layers: &mut Layers, column: usize, row: usize) -> Result<(), AllocError> {
     layers.cells.push(Cell { column, row })?;
     layers.columns = max(layers.columns, column.saturating_add(1));
@@ -75,8 +75,8 @@ fn columns_of(alloc: Global, states: &[&StateData]) -> Result<Vec<usize>, AllocE
     Ok(columns)
 }
 
-/// Reaches the states to which the edges of the state at the index `at` of `reached` lead. Changes
-/// nothing if there is no such index.
+/// Calls `reach` for each state to which an edge leads from the state at the index `at` of
+/// `reached`. Changes nothing if there is no such index.
 fn reach_next(
     columns: &mut Vec<usize>,
     reached: &mut Vec<usize>,

@@ -7,11 +7,12 @@ use logos_inspect::LeafRow;
 use logos_page::Page;
 use std::alloc::{AllocError, Global};
 
-/// Appends the section of the leaves of `graph`. `rows` describes the leaves, in order.
+/// Appends the section of the leaves of `graph`. `rows` contains the rows of the leaves, in the
+/// order of the leaves' numbers.
 ///
 /// # Errors
 ///
-/// Returns `AllocError` if memory runs out. Then a part may have been appended.
+/// Returns `AllocError` if memory runs out. Then a part of the section may have been appended.
 pub(crate) fn push_leaves(
     alloc: Global,
     html: &mut Html,
@@ -102,7 +103,8 @@ fn push_pattern_cell(html: &mut Html, row: LeafRow<'_>) {
     html.push_markup("</td>");
 }
 
-/// Appends the cell with the priority of a leaf, marked as the default if it is.
+/// Appends the cell with the priority of a leaf. The priority is marked as the default if it is the
+/// default priority of the leaf.
 fn push_priority_cell(html: &mut Html, row: LeafRow<'_>) {
     html.push_markup("<td class=\"n\">");
     html.push_number(row.priority);
@@ -123,14 +125,14 @@ fn push_callback_cell(html: &mut Html, row: LeafRow<'_>) {
     html.push_markup("</td>");
 }
 
-/// Appends the cell with the line of a leaf in its file.
+/// Appends the cell with the number of the line of a leaf in its file.
 fn push_line_cell(html: &mut Html, line: usize) {
     html.push_markup("<td class=\"n\">");
     html.push_number(line);
     html.push_markup("</td>");
 }
 
-/// Appends the cell with an input in which the lexer finds the leaf first, or with a note that
+/// Appends the cell with an input whose first item is a match of the leaf, or with a note that
 /// there is no such input.
 fn push_example_cell(
     alloc: Global,
@@ -148,8 +150,8 @@ fn push_example_cell(
     Ok(())
 }
 
-/// Appends the cell with an input that a leaf matches but in which another leaf is found, and a
-/// link to the other leaf. The cell is empty if there is no such input.
+/// Appends the cell with an input that a leaf matches but in which the lexer finds another leaf,
+/// and with a link to this other leaf. The cell is empty if there is no such input.
 fn push_loss_cell(
     alloc: Global,
     html: &mut Html,

@@ -1,6 +1,6 @@
-//! Writes the page of a lexer: an HTML file with its leaves, its states, a drawing of the states,
-//! and optionally an input in which the items are marked. The text of sources and inputs is never
-//! read as markup. Used by `logos_show` for `--html`.
+//! Writes the page of a lexer. The page is an HTML file with the leaves, the states and a drawing
+//! of the states of the lexer, and optionally an input in which the items are marked. The text of
+//! sources and inputs is never read as markup. Used by `logos_show` for `--html`.
 
 #![tactic(auto)]
 

@@ -11,10 +11,10 @@ const BYTES: usize = 256;
 
 /// Returns the length of a prefix of `rest` that decides which matches start at the beginning of
 /// `rest`. This is the number of bytes after which the automaton is in its dead state, or the
-/// length of `rest` if the automaton never reaches that state.
+/// length of `rest` if the automaton never reaches the dead state.
 ///
 /// Returns `None` if the automaton has no dead state, or if `rest` is longer than `most` bytes and
-/// fewer than `most` bytes do not suffice.
+/// the automaton does not reach the dead state after fewer than `most` bytes.
 pub(crate) fn enough_bytes(dfa: &Dfa, rest: &[u8], most: usize) -> Option<usize>
     ensures { IfSome result (IsEnough (dfa_of dfa.now) rest.now) }
 {
@@ -35,8 +35,8 @@ pub(crate) fn enough_bytes(dfa: &Dfa, rest: &[u8], most: usize) -> Option<usize>
     Some(rest.len())
 }
 
-/// Returns whether a state has no leaf, and each byte and the end of the input lead from the state
-/// back to itself.
+/// Returns whether a state is dead: whether the state has no leaf, and each byte and the end of the
+/// input lead from the state back to the state itself.
 fn is_dead(dfa: &Dfa, state: StateId) -> bool
     requires { state.0 < length (dfa_of dfa.now).matches }
     ensures { IsTrue result → IsDead (dfa_of dfa.now) state.0 }

@@ -1,4 +1,4 @@
-//! Writes the text of an input, with an HTML span for each of its items. Used by `document`.
+//! Writes the text of an input, with an HTML span for each item of the input. Used by `document`.
 
 ghost use Rattle.std.specs.Prelude.{◌≡◌, decimal, map};
 ghost use Rattle.logos_html.specs.Views.{Gains, class_text, described_of, description_text, end_of, extent_label, item_head, item_markup, item_of, items_text, location_label, moved, name_label, next_text, part_of, label_end, priority_at, priority_label, range_text, slice_text, span_data, start_of, token_head};
@@ -16,7 +16,7 @@ use logos_token::token::Span;
 /// The number of colors. Leaf `n` has the color `n % COLORS`.
 const COLORS: usize = 8;
 
-/// An input whose front is shown on a page, with the leaves of its lexer.
+/// An input whose front is shown on a page, and the leaves of the page's lexer.
 #[derive(Clone, Copy)]
 pub(crate) struct ShownInput<'a, 's> {
     pub(crate) leaves: &'a [Leaf<'s>],
@@ -81,7 +81,8 @@ fn push_item(html: &mut Html, shown: ShownInput<'_, '_>, item: &Described<'_>, l
     push_slice(html, shown, span);
 }
 
-/// Appends the beginning of the HTML span of an item, up to the location in its label.
+/// Appends the beginning of the HTML span of an item. This beginning ends before the location in
+/// the label of the item.
 fn push_head(html: &mut Html, leaves: &[Leaf<'_>], item: Item<'_>)
     ensures { Gains (item_head leaves.now (item_of item.entry)) html.old html.new }
 {
@@ -93,8 +94,8 @@ fn push_head(html: &mut Html, leaves: &[Leaf<'_>], item: Item<'_>)
     }
 }
 
-/// Appends the description of an item as an attribute, unless it is empty, and ends the start tag
-/// of the item.
+/// Appends the description of an item as an attribute, unless the description is empty. Ends the
+/// start tag of the item's HTML span.
 fn push_description(html: &mut Html, description: &str)
     ensures { Gains (description_text description.now) html.old html.new }
 {
@@ -154,8 +155,8 @@ fn priority_at(leaves: &[Leaf<'_>], leaf: usize) -> usize
     }
 }
 
-/// Appends the rest of the label of an item, with the item's location and span, and the attribute
-/// with the item's span for programs.
+/// Appends the rest of the label of an item, with the item's location and span. Also appends the
+/// attribute `data-span`, from which programs read the item's span.
 fn push_label_end(html: &mut Html, span: Span, location: Location)
     ensures { Gains (label_end span.from span.to location) html.old html.new }
 {
@@ -182,7 +183,8 @@ fn push_extent(html: &mut Html, span: Span)
     push_range(html, span);
 }
 
-/// Appends the end of the label of an item, and the attribute with the item's span for programs.
+/// Appends the end of the label of an item, and the attribute `data-span`, from which programs read
+/// the item's span.
 fn push_data(html: &mut Html, span: Span)
     ensures { Gains (span_data span.from span.to) html.old html.new }
 {
@@ -191,7 +193,7 @@ fn push_data(html: &mut Html, span: Span)
     html.push_markup("\"");
 }
 
-/// Appends the offsets of a span, with `..` between them.
+/// Appends the start and the end of a span, with `..` between these offsets.
 fn push_range(html: &mut Html, span: Span)
     ensures { Gains (range_text span.from span.to) html.old html.new }
 {

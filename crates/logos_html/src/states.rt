@@ -14,12 +14,12 @@ const LISTED: usize = 1000;
 /// The maximum number of byte ranges that are shown for an edge.
 const RANGES: usize = 12;
 
-/// Appends the section of the states of a graph. If the page shows an input, `entries` has the
+/// Appends the section of the states of a graph. If the page shows an input, `entries` contains the
 /// number of times that match attempts on the input enter each state.
 ///
 /// # Errors
 ///
-/// Returns `AllocError` if memory runs out. Then a part may have been appended.
+/// Returns `AllocError` if memory runs out. Then a part of the section may have been appended.
 pub(crate) fn push_states(
     alloc: Global,
     html: &mut Html,
@@ -43,8 +43,8 @@ entered. Sets of bytes are written as in a pattern.</p>
     Ok(())
 }
 
-/// Appends the head of the table. If `entries` is `Some`, the head has a column for the counts, and
-/// a sentence before the table explains them.
+/// Appends the head of the table. If `entries` is `Some`, the head has a column for the counts of
+/// entries, and a sentence before the table explains these counts.
 fn push_head(html: &mut Html, entries: Option<&Entries>) {
     if let Some(entries) = entries {
         html.push_markup(
@@ -159,7 +159,8 @@ fn push_end_edge(html: &mut Html, end: Option<State>) {
     }
 }
 
-/// Appends the number of a state, as a link to its row if the state is listed.
+/// Appends the number of a state. The number is a link to the row of the state if this row is
+/// listed.
 fn push_state_link(html: &mut Html, state: State) {
     let number = state.index();
     if number >= LISTED {

@@ -1,5 +1,5 @@
-//! The style sheet of a page. It is a part of the page, so that no other file is needed. Used by
-//! `document`.
+//! Contains the style sheet of a page. The style sheet is a part of the page, so that the page
+//! needs no other file. Used by `document`.
 
 /// The style sheet for light and dark themes, narrow and wide screens, and paper. While an item has
 /// the focus or the pointer, the label and the description of the item are shown at the bottom.

@@ -5,7 +5,7 @@ ghost use Rattle.logos_inspect.specs.Views.{costs};
 
 use logos_code::code::Code;
 
-/// The cost of a lexer, measured by the sizes of its code.
+/// The cost of a lexer: the number of states and the numbers of tables in its code.
 #[derive(Clone, Copy, Debug, PartialEq, Eq)]
 pub struct Costs {
     /// The number of states.

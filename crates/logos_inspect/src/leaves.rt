@@ -18,7 +18,7 @@ pub struct LeafRow<'l> {
     pub variant: Option<&'l str>,
     /// Whether the leaf is a `token`, as opposed to a `regex` or a `skip`.
     pub is_token: bool,
-    /// The literal as written in the source, with its quotes.
+    /// The literal as written in the source, including the quotes.
     pub pattern: &'l str,
     /// The options of the leaf's definition.
     pub options: LeafOptions,
@@ -61,7 +61,7 @@ pub fn row_of<'l>(
     })
 }
 
-/// Returns the name of a leaf's variant, or `None` for a skip. `kind` is the kind of the leaf.
+/// Returns the name of the variant of a leaf with the kind `kind`, or `None` for a skip.
 fn variant_name<'l>(kind: &'l VariantKind<'_>) -> Option<&'l str>
     ensures { option_copied result ≡ variant_name kind.now }
 {

@@ -7,13 +7,13 @@ use logos_graph::graph::{Graph, StateType};
 use logos_hir::leaf::LeafId;
 use std::alloc::{AllocError, Global};
 
-/// Returns an array with a flag for each leaf of a graph, by the leaf's number. The flag is `true`
-/// if at least one state marks the leaf.
+/// Returns an array with a flag for each leaf of a graph, indexed by the leaf's number. The flag is
+/// `true` if at least one state marks the leaf.
 ///
 /// If a graph without faults does not mark a leaf, maximal munch never finds the leaf in any input.
 /// At each match of the leaf, another leaf has a longer match, or a match of equal length and a
-/// higher priority. Maximal munch may also never find a leaf that has only late marks: each match
-/// of the leaf may be followed by a longer one.
+/// higher priority. Maximal munch may also never find a leaf that has only late marks, because a
+/// longer match may follow each match of the leaf.
 ///
 /// # Errors
 ///

@@ -15,7 +15,7 @@ use logos_scan::walk::masks::ChunkEntries;
 use std::alloc::{AllocError, Global};
 use std::io::Write;
 
-/// A block of text, to which the items of an input are appended in order.
+/// A block of text to which the items of an input are appended, one after another.
 pub(crate) trait ItemBlock {
     /// Appends the text of an item, and counts the item.
     ///
@@ -33,8 +33,11 @@ pub(crate) trait ItemBlock {
 ///
 /// # Errors
 ///
-/// Returns `NotUtf8` if the lexer reads UTF-8 and the input is not UTF-8, `Output` or `Closed` if
-/// writing fails, and `Memory` if memory runs out.
+/// Returns:
+///
+/// - `NotUtf8` if the lexer reads UTF-8 and the input is not UTF-8.
+/// - `Output` or `Closed` if writing fails.
+/// - `Memory` if memory runs out.
 pub(crate) fn write_all<B: ItemBlock, O: Write>(
     alloc: Global,
     code: &Code<'_>,

@@ -1,4 +1,4 @@
-//! Writes the items of an input, one line for each. Used by `logos_show`.
+//! Writes the items of an input, one on each line. Used by `logos_show`.
 
 ghost use Rattle.std.specs.Prelude.{IfErr};
 ghost use Rattle.logos_items.specs.Imports.{IsNoMisuse};
@@ -21,8 +21,11 @@ use std::time::Clock;
 ///
 /// # Errors
 ///
-/// Returns `NotUtf8` if the lexer reads UTF-8 and the input is not UTF-8, `Output` or `Closed` if
-/// writing fails, and `Memory` if memory runs out.
+/// Returns:
+///
+/// - `NotUtf8` if the lexer reads UTF-8 and the input is not UTF-8.
+/// - `Output` or `Closed` if writing fails.
+/// - `Memory` if memory runs out.
 pub fn write_items<O: Write, C: Clock>(
     order: ItemOrder<'_>,
     made: &Generated<'_>,

@@ -37,7 +37,7 @@ pub(crate) struct Lines {
     pub(crate) canvas: Canvas,
     pub(crate) counts: Counts,
     /// For each leaf, the head of its lines: the text between the location and the item's bytes.
-    /// This text is the variant with separators.
+    /// The head contains the name of the variant, and separators.
     pub(crate) heads: Vec<Vec<u8>>,
 }
 

@@ -1,4 +1,4 @@
-//! Writes the items of an input, one JSON object for each. Used by `logos_show`.
+//! Writes the items of an input, each as a JSON object. Used by `logos_show`.
 
 ghost use Rattle.std.specs.Prelude.{IfErr};
 ghost use Rattle.logos_items.specs.Imports.{IsNoMisuse, TakesMatches};
@@ -20,8 +20,11 @@ use std::mem;
 ///
 /// # Errors
 ///
-/// Returns `NotUtf8` if the lexer reads UTF-8 and the input is not UTF-8, `Output` or `Closed` if
-/// writing fails, and `Memory` if memory runs out.
+/// Returns:
+///
+/// - `NotUtf8` if the lexer reads UTF-8 and the input is not UTF-8.
+/// - `Output` or `Closed` if writing fails.
+/// - `Memory` if memory runs out.
 pub fn write_item_records<O: Write>(
     alloc: Global,
     code: &Code<'_>,
@@ -51,7 +54,7 @@ struct Records {
     counts: Counts,
 }
 
-/// Writes an object for each item of an input in blocks. The last objects remain in `records` for
+/// Writes, in blocks, an object for each item of an input. The last objects remain in `records` for
 /// the caller to write.
 fn write_all_records<O: Write>(
     code: &Code<'_>,
@@ -73,7 +76,7 @@ fn write_all_records<O: Write>(
     }
 }
 
-/// Writes an object for each remaining item of a lexer in blocks. The last objects remain in
+/// Writes, in blocks, an object for each remaining item of a lexer. The last objects remain in
 /// `records`.
 fn write_records<C: Fn(LeafId, &[u8]) -> Action, O: Write>(
     lexer: &mut Lexer<'_, '_, '_, C>,

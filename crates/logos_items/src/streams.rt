@@ -1,4 +1,4 @@
-//! Writes the items of standard input, one line for each, as they are found. Used by `logos_show`.
+//! Writes the items of standard input as they are found, one on each line. Used by `logos_show`.
 
 ghost use Rattle.std.specs.Prelude.{◌<◌, IfErr};
 ghost use Rattle.logos_items.specs.Imports.{IsNoMisuse, KeepsCode, TakesMatches, unread_length};
@@ -28,9 +28,15 @@ const MOST: usize = 16_777_216;
 ///
 /// # Errors
 ///
-/// Returns `NotUtf8` if the lexer reads UTF-8 and the input is not UTF-8, `Refused` if a match is
-/// too long, `Read` if reading fails, `Output` or `Closed` if writing fails, and `Memory` if memory
-/// runs out. With `NotUtf8` and `Refused`, the lines of the items before the error were written.
+/// Returns:
+///
+/// - `NotUtf8` if the lexer reads UTF-8 and the input is not UTF-8.
+/// - `Refused` if a match has more than `MOST` bytes.
+/// - `Read` if reading fails.
+/// - `Output` or `Closed` if writing fails.
+/// - `Memory` if memory runs out.
+///
+/// With `NotUtf8` and `Refused`, the lines of the items before the error were written.
 pub fn write_streamed<S: Clock + Input, O: Write>(
     order: ItemOrder<'_>,
     made: &Generated<'_>,
@@ -60,7 +66,7 @@ pub fn write_streamed<S: Clock + Input, O: Write>(
     Ok(note)
 }
 
-/// The reason why a stream is not lexed to its end.
+/// The reason why a stream was not lexed to its end.
 #[derive(Clone, Copy)]
 enum StreamStop {
     NotUtf8,
@@ -79,8 +85,8 @@ fn failure_at(alloc: Global, stop: StreamStop, offset: usize) -> Failure<'static
     }
 }
 
-/// Returns the failure for a match that is too long and begins at the byte offset `offset` of
-/// standard input.
+/// Returns the failure for a match of more than `MOST` bytes that begins at the byte offset
+/// `offset` of standard input.
 fn too_long(alloc: Global, offset: usize) -> Failure<'static>
     ensures { IsNoMisuse result }
 {
@@ -93,7 +99,7 @@ fn too_long(alloc: Global, offset: usize) -> Failure<'static>
     }
 }
 
-/// Writes a line for each item of a stream in blocks. The last lines remain in `lines` for the
+/// Writes, in blocks, a line for each item of a stream. The last lines remain in `lines` for the
 /// caller to write. Returns the reason why the stream was not lexed to its end, or `None` if it was
 /// lexed to its end.
 fn write_stream<R: Read + Drop, C: Fn(LeafId, &[u8]) -> Action + Copy, O: Write>(

@@ -1,4 +1,4 @@
-//! Writes lines of JSON, each with one object, token by token. Called by `logos_messages` and
+//! Writes JSON token by token, with one object on each line. Called by `logos_messages` and
 //! `logos_records`.
 
 #![tactic(auto)]

@@ -1,4 +1,5 @@
-//! Writes lines of JSON token by token. Used by `logos_messages` and `logos_records`.
+//! Contains `JsonLines`, which writes lines of JSON token by token. Used by `logos_messages` and
+//! `logos_records`.
 
 ghost use Rattle.std.specs.Prelude.{◌≡◌, ◌↔◌, ◌∷◌, [], true, IfOk, IsOk, IsTrue, decimal, option_map};
 ghost use Rattle.logos_json.specs.Imports.{Ends, Finishes, Gains, bool_member, byte_tokens, bytes_member, flat_map, list_member, maybe_bytes, maybe_number, maybe_text, null_member, number_member, text_member, begin_array, begin_object, boolean, end_array, end_object, key, null, number, string};
@@ -8,8 +9,8 @@ use std::alloc::{AllocError, Global};
 use std::marker::Model;
 use std::{mem, str};
 
-/// Lines of JSON to which tokens are appended. The value records whether memory ran out, so only
-/// `finish` can fail.
+/// Lines of JSON to which tokens are appended. The value records whether memory ran out, so that
+/// `finish` is the only method that can fail.
 #[derive(Drop)]
 pub struct JsonLines {
     writer: Writer,
@@ -30,7 +31,7 @@ impl Model for JsonLines {
 }
 
 impl JsonLines {
-    /// Returns lines of JSON that follow the bytes `out`, beginning with an empty line.
+    /// Returns lines of JSON that follow the bytes `out`. The first line is empty.
     pub fn new(alloc: Global, out: Vec<u8>) -> JsonLines
         ensures { result ≡ record { before = out.items; tokens = []; is_whole = true } }
     {
@@ -77,7 +78,7 @@ impl JsonLines {
         }
     }
 
-    /// Appends the name of a member. The value of the member is appended next.
+    /// Appends the name of a member. The caller appends the value of the member next.
     pub fn push_name(&mut self, name: &str)
         ensures { Gains (key name.now ∷ []) self.old self.new }
     {
@@ -86,7 +87,8 @@ impl JsonLines {
         }
     }
 
-    /// Appends the beginning of a member with a list. The elements of the list are appended next.
+    /// Appends the name of a member and the beginning of a list, which is the value of the member.
+    /// The caller appends the elements and the end of the list next.
     pub fn begin_list(&mut self, name: &str)
         ensures { Gains (key name.now ∷ begin_array ∷ []) self.old self.new }
     {
@@ -130,7 +132,7 @@ impl JsonLines {
         }
     }
 
-    /// Appends a member with a text.
+    /// Appends the member `name` with the text `text`.
     pub fn push_text(&mut self, name: &str, text: &str)
         ensures { Gains (text_member name.now text.now) self.old self.new }
     {
@@ -138,7 +140,7 @@ impl JsonLines {
         self.string(text);
     }
 
-    /// Appends a member with a number.
+    /// Appends the member `name` with the number `value`.
     pub fn push_number(&mut self, name: &str, value: usize)
         ensures { Gains (number_member name.now value) self.old self.new }
     {
@@ -146,7 +148,7 @@ impl JsonLines {
         self.number(value);
     }
 
-    /// Appends a member with a boolean.
+    /// Appends the member `name` with the boolean `value`.
     pub fn push_bool(&mut self, name: &str, value: bool)
         ensures { Gains (bool_member name.now value) self.old self.new }
     {
@@ -154,7 +156,7 @@ impl JsonLines {
         self.boolean(value);
     }
 
-    /// Appends a member with null.
+    /// Appends the member `name` with null.
     pub fn push_null(&mut self, name: &str)
         ensures { Gains (null_member name.now) self.old self.new }
     {
@@ -162,7 +164,7 @@ impl JsonLines {
         self.null();
     }
 
-    /// Appends a member with a text, or with null if `text` is `None`.
+    /// Appends the member `name` with a text, or with null if `text` is `None`.
     pub fn push_maybe_text(&mut self, name: &str, text: Option<&str>)
         ensures { Gains (maybe_text name.now (option_map (λ t. t.now) text.entry)) self.old self.new }
     {
@@ -172,7 +174,7 @@ impl JsonLines {
         }
     }
 
-    /// Appends a member with a number, or with null if `value` is `None`.
+    /// Appends the member `name` with a number, or with null if `value` is `None`.
     pub fn push_maybe_number(&mut self, name: &str, value: Option<usize>)
         ensures { Gains (maybe_number name.now value) self.old self.new }
     {
@@ -182,7 +184,8 @@ impl JsonLines {
         }
     }
 
-    /// Appends a member with bytes: a text if the bytes are UTF-8, and a list of numbers otherwise.
+    /// Appends the member `name` with bytes: a text if the bytes are UTF-8, and a list of numbers
+    /// otherwise.
     pub fn push_bytes(&mut self, name: &str, bytes: &[u8])
         ensures { Gains (bytes_member name.now bytes.now) self.old self.new }
     {
@@ -192,7 +195,8 @@ impl JsonLines {
         }
     }
 
-    /// Appends a member with bytes as `push_bytes` does, or with null if `bytes` is `None`.
+    /// Appends the member `name` with bytes as `push_bytes` does, or with null if `bytes` is
+    /// `None`.
     pub fn push_maybe_bytes(&mut self, name: &str, bytes: Option<&[u8]>)
         ensures { Gains (maybe_bytes name.now (option_map (λ b. b.now) bytes.entry)) self.old
             self.new }
@@ -203,7 +207,7 @@ impl JsonLines {
         }
     }
 
-    /// Appends a member with a list of `bytes` as numbers.
+    /// Appends the member `name` with a list of `bytes` as numbers.
     fn push_list(&mut self, name: &str, bytes: &[u8])
         ensures { Gains (list_member name.now (flat_map byte_tokens bytes.now)) self.old self.new }
     {
@@ -212,7 +216,7 @@ impl JsonLines {
         self.end_list();
     }
 
-    /// Appends `bytes` as numbers that are elements of a list.
+    /// Appends each of `bytes` as a number that is an element of a list.
     fn push_elements(&mut self, bytes: &[u8])
         ensures { Gains (flat_map byte_tokens bytes.now) self.old self.new }
     {

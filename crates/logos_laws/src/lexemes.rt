@@ -1,12 +1,12 @@
-//! Laws of lexemes: the bytes with which literals and comments open. No code calls these functions:
-//! the contract of each is a proved law.
+//! Laws of lexemes: the bytes with which literals and comments begin. No code calls these
+//! functions: the contract of each is a proved law.
 
 ghost use Rattle.std.specs.Prelude.{codes};
 ghost use Rattle.logos_laws.specs.lexemes.Imports.{Apostrophes, Block, Bytes, C, Doc, Gap, Line, OpensBlock, OpensBlockDoc, OpensBy, OpensLine, OpensLineDoc, OpensNumber, OpensRaw, Quotes, Text};
 
-/// A digit opens a number, and a quote opens a string. Letters before a quote, `#` and `'` open the
-/// other literals. Two characters open a comment, and the bytes after them decide whether the
-/// comment is documentation.
+/// A number begins with a digit, and a string begins with a quote. The other literals begin with
+/// letters before a quote, `#` or `'`, or with `'`. Comments begin with two characters, and the
+/// bytes after these characters decide whether a comment is documentation.
 pub fn openings_by_text()
     ensures numbers { OpensNumber }
     ensures strings { OpensBy (codes "\"") (Quotes Text) × OpensBy (codes "b\"") (Quotes Bytes)

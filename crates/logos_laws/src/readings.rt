@@ -1,6 +1,6 @@
 //! Laws that restate definitions of other crates in a form that is easier to check by reading. For
-//! example, they describe the pieces of an attribute one after another, and the result of stripping
-//! part by part.
+//! example, `pieces_in_turn` describes the pieces of an attribute one after another, and
+//! `strips_by_parts` describes the result of stripping part by part.
 //!
 //! No code calls these functions: the contract of each is a proved law.
 
@@ -8,8 +8,8 @@ ghost use Rattle.std.specs.Prelude.{◌≡◌, ◌<◌, ◌≤◌, ◌↔◌, �
 ghost use Rattle.logos_laws.specs.readings.Imports.{EnumValue, Piece, Reads, TokenList, pieces, stripped, in_file, moved, InReport, OccurInOrder, ArePieces, EnumStays, IsBytes, Matches, MatchesInOrder, SomeMatches, Tree, repetition, trees, alternation_of, concat_of, repetition_of};
 ghost use Rattle.logos_laws.specs.readings.Imports.{AreFew, AreOfVariant, CodeLeaf, HaveNoSets, Refused, SourceValue, all_faults, all_lines, code_variant, lines_from, refused_texts, variant_line};
 
-/// The pieces of an argument are its first piece, followed by the pieces of the tokens after the
-/// first piece and its comma.
+/// The pieces of a list of tokens are the first piece, followed by the pieces of the tokens after
+/// the first piece and the comma that ends this piece.
 pub fn pieces_in_turn()
     ensures are { (run : TokenList) → ArePieces run (pieces run) }
     ensures only { (run : TokenList) (list : List Piece) → ArePieces run list →
@@ -35,16 +35,16 @@ pub fn offsets_are_sums()
         moved begin offset ≡ begin + offset }
 {}
 
-/// The lines of a report occur in the report in order. The law uses the definition of
-/// `OccurInOrder` that is also used for generated code.
+/// The lines of a report occur one after another in the text of the report. The law uses the
+/// definition of `OccurInOrder` that is also used for generated code.
 pub fn report_lines_occur()
     ensures { (is_colored : Bool) (lines : List (List ℕ)) (whole : List ℕ) →
         InReport is_colored lines whole → OccurInOrder lines whole }
 {}
 
-/// The simplest form of a tree that is built from parts, branches or a repetition has exactly the
-/// matches of the parts one after another, of one of the branches, or of the repetition,
-/// respectively.
+/// The builders do not change the matches of trees. The result for parts has exactly the matches of
+/// the parts one after another, the result for branches has exactly the matches of the branches,
+/// and the result for a repetition has exactly the matches of the repetition.
 pub fn builders_change_no_match()
     ensures parts { (parts : List Tree) (bytes : List ℕ) (from to : ℕ) →
         Matches (concat_of parts) bytes from to ↔ MatchesInOrder (trees parts) bytes from to }
@@ -58,8 +58,8 @@ pub fn builders_change_no_match()
         ↔ Matches (repetition least most greedy body) bytes from to }
 {}
 
-/// A report consists of exactly the lines of each fault, in order, if at most 50 faults have the
-/// same code and no set of ambiguous leaves has a clue.
+/// A report consists of exactly the lines of each fault, in the order of the faults, if at most 50
+/// faults have the same code and no set of ambiguous leaves has a clue.
 pub fn short_reports_are_whole()
     ensures { (is_colored : Bool) (source : SourceValue) (parts : List Refused) →
         HaveNoSets parts → AreFew (all_faults parts) →
@@ -67,8 +67,8 @@ pub fn short_reports_are_whole()
 {}
 
 /// If consecutive leaves are the remaining leaves of a variant, the next line of the totals
-/// contains the sum of their numbers of items, or 2^64 - 1 if the sum is greater. There is no such
-/// line if the sum is 0. The lines of the later leaves follow.
+/// contains the sum of the numbers of items of these leaves, or 2^64 - 1 if the sum is greater.
+/// There is no such line if the sum is 0. The lines of the later leaves follow.
 pub fn totals_are_sums()
     ensures { (leaves : List CodeLeaf) (counts : List ℕ) (from size last total left : ℕ) →
         AreOfVariant leaves counts from size last total →

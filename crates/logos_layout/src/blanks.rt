@@ -1,14 +1,14 @@
-//! Decides whether a blank separates two neighboring lexemes of a line. Called by `state`.
+//! Decides whether a blank separates two neighboring lexemes of a line. `state` calls `is_blank`.
 
 use crate::classes::{LexemeClass, Role};
 use logos_token::token::Delimiter;
 
-/// Returns whether a line has a blank between the neighboring lexemes `last` and `next`. `has_gap`
-/// is `true` if the text has a gap between them. Without a gap, a blank is inserted only after a
-/// comma.
+/// Returns whether a line has a blank between two neighboring lexemes. `last` and `next` are the
+/// classes of the lexemes, and `has_gap` is `true` if the text has a gap between them. Without a
+/// gap, a blank is inserted only after a comma.
 ///
 /// A gap between two characters of punctuation always becomes a blank, and so does a gap between
-/// two names or literals. Thus the tokens do not change.
+/// two names or literals. Otherwise, the tokens of the text could change.
 pub(crate) fn is_blank(last: LexemeClass, next: LexemeClass, has_gap: bool) -> bool {
     if !has_gap {
         return is_after_comma(last, next);
@@ -19,8 +19,9 @@ pub(crate) fn is_blank(last: LexemeClass, next: LexemeClass, has_gap: bool) -> b
     !(is_tight_after(last, next) | is_tight_before(last, next))
 }
 
-/// Returns whether a blank is inserted between two lexemes that have no gap between them. A blank
-/// is inserted after a comma, except before punctuation or a closing delimiter.
+/// Returns whether a blank is inserted between two lexemes that have no gap between them. `last`
+/// and `next` are the classes of the lexemes. A blank is inserted after a comma, unless punctuation
+/// or a closing delimiter follows the comma.
 fn is_after_comma(last: LexemeClass, next: LexemeClass) -> bool {
     matches!(last, LexemeClass::Sign(Role::Comma))
         & !matches!(next, LexemeClass::Sign(_) | LexemeClass::Closing(_))
@@ -31,8 +32,9 @@ fn is_sign(class: LexemeClass) -> bool {
     matches!(class, LexemeClass::Sign(_))
 }
 
-/// Returns whether `next` follows `last` without a blank because of the class of `last`. A number
-/// never follows a dot directly, because the two would be read as a fraction.
+/// Returns whether the class `last` prevents a blank before a lexeme of the class `next`. A blank
+/// between a dot and a literal remains, because a dot and a number could otherwise be read as a
+/// fraction.
 fn is_tight_after(last: LexemeClass, next: LexemeClass) -> bool {
     match last {
         LexemeClass::Opening(Delimiter::Brace) => matches!(
@@ -49,8 +51,9 @@ fn is_tight_after(last: LexemeClass, next: LexemeClass) -> bool {
     }
 }
 
-/// Returns whether `next` follows `last` without a blank because of the class of `next`. A dot
-/// never follows a number directly, because the two would be read as a fraction.
+/// Returns whether the class `next` prevents a blank after a lexeme of the class `last`. A blank
+/// between a literal and a dot remains, because a number and a dot could otherwise be read as a
+/// fraction.
 fn is_tight_before(last: LexemeClass, next: LexemeClass) -> bool {
     match next {
         LexemeClass::Closing(Delimiter::Brace) => false,

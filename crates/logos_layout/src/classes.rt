@@ -1,14 +1,15 @@
-//! The classes of lexemes. The class of a lexeme determines the layout around the lexeme. Used by
+//! Defines the classes of lexemes, which determine the separators between lexemes. Used by
 //! `blanks`, `line_breaks` and `state`.
 
 use logos_token::token::{Delimiter, Spacing};
 
-/// The class of a lexeme. The class determines the layout around the lexeme.
+/// The class of a lexeme, which determines the separators before and after the lexeme.
 #[derive(Clone, Copy, PartialEq, Eq)]
 pub(crate) enum LexemeClass {
     /// No lexeme: the beginning of the text.
     Start,
-    /// A name after a keyword that declares it, or another name that looks like the name of a type.
+    /// A name directly after a `Declaring` keyword, or any other name that looks like the name of a
+    /// type.
     TypeName,
     /// A keyword that declares a name.
     Declaring,
@@ -32,20 +33,20 @@ pub(crate) enum LexemeClass {
     Sign(Role),
 }
 
-/// The role of a character of punctuation.
+/// The role of a character of punctuation, which determines the blanks around the character.
 #[derive(Clone, Copy, PartialEq, Eq)]
 pub(crate) enum Role {
-    /// `,`
+    /// The character `,`.
     Comma,
-    /// `;`
+    /// The character `;`.
     Semicolon,
-    /// `?`
+    /// The character `?`.
     Question,
-    /// `.`
+    /// The character `.`.
     Dot,
     /// The `'` of a lifetime or a label.
     Apostrophe,
-    /// `#`
+    /// The character `#`.
     Hash,
     /// The second `:` of the `::` in a path.
     PathMark,
@@ -110,8 +111,8 @@ fn is_in(name: &str, words: &[&str]) -> bool {
     false
 }
 
-/// Returns whether `name` looks like the name of a type: whether it begins with an upper-case
-/// letter and a lower-case letter, optionally after one `_`.
+/// Returns whether `name` looks like the name of a type, that is, whether it begins with an
+/// upper-case ASCII letter that is followed by a lower-case one. A single leading `_` is ignored.
 fn is_type_name(name: &[u8]) -> bool {
     match name {
         [b'_', first, second, ..] => first.is_ascii_uppercase() & second.is_ascii_lowercase(),
@@ -165,10 +166,15 @@ fn colon_role(last: LexemeClass) -> Role {
     }
 }
 
-/// Returns the role of a `<` after a lexeme of the class `last`. The `<` opens a list of types
-/// after the name of a type, after a keyword that declares a name, after the `::` of a path, and
-/// where an operand can follow. `is_second` is `true` if no gap separates the `<` from the lexeme
-/// before it.
+/// Returns the role of a `<` after a lexeme of the class `last`. `is_second` is `true` if no gap
+/// separates the `<` from the lexeme before it.
+///
+/// The `<` opens a list of types in each of these positions:
+///
+/// - after the name of a type,
+/// - after a keyword that declares a name,
+/// - after the `::` of a path,
+/// - where an operand can follow.
 fn less_role(last: LexemeClass, is_second: bool) -> Role {
     match last {
         LexemeClass::TypeName | LexemeClass::Declaring | LexemeClass::Sign(Role::PathMark) =>
@@ -188,15 +194,15 @@ fn greater_role(last: LexemeClass, has_types: bool) -> Role {
     }
 }
 
-/// Returns whether a `!` after a lexeme of the class `last` marks the name of a macro: whether it
-/// follows a name, and no other punctuation follows it without a gap.
+/// Returns whether a `!` after a lexeme of the class `last` marks the name of a macro, that is,
+/// whether the `!` follows a name, and no other punctuation follows the `!` without a gap.
 fn is_macro_mark(last: LexemeClass, spacing: Spacing) -> bool {
     matches!(last, LexemeClass::Name | LexemeClass::TypeName) & matches!(spacing, Spacing::Alone)
 }
 
-/// Returns whether a character after a lexeme of the class `last` begins an operand: whether an
-/// operand can follow the lexeme, and the character is not the second one of an operator.
-/// `is_second` is `true` if no gap separates the character from the lexeme.
+/// Returns whether a character after a lexeme of the class `last` begins an operand, that is,
+/// whether an operand can follow the lexeme, and the character is not the second one of an
+/// operator. `is_second` is `true` if no gap separates the character from the lexeme.
 fn is_prefix(last: LexemeClass, is_second: bool) -> bool {
     let is_operator = matches!(last, LexemeClass::Sign(Role::Operator | Role::Arrow));
     is_before_operand(last) & !(is_operator & is_second)

@@ -7,8 +7,8 @@ use logos_token::error::Memory;
 use logos_token::token::{TokenError, print, tokenize};
 use std::alloc::Global;
 
-/// Returns whether `text` and `other` spell equal tokens, apart from their spans. Returns `false`
-/// if one of the texts cannot be read into tokens.
+/// Returns whether `text` and `other` spell tokens that are equal except for their spans. Returns
+/// `false` if one of the texts cannot be read into tokens.
 pub(crate) fn spell_same(alloc: Global, text: &str, other: &str) -> Result<bool, Memory>
     ensures { IfOk result (λ same. IsTrue same → SpellsSame text.now other.now) }
 {
@@ -21,8 +21,8 @@ pub(crate) fn spell_same(alloc: Global, text: &str, other: &str) -> Result<bool,
     Ok(one.as_str() == two.as_str())
 }
 
-/// Returns whether `printed` is the printed text of all tokens of `text`. Returns `false` if `text`
-/// cannot be read into tokens.
+/// Returns whether `printed` is the text that `print` returns for all tokens of `text`. Returns
+/// `false` if `text` cannot be read into tokens.
 pub(crate) fn prints_as(alloc: Global, text: &str, printed: &str) -> Result<bool, Memory>
     ensures { IfOk result (λ same. IsTrue same → ArePrinted text.now printed.now) }
 {
@@ -32,8 +32,8 @@ pub(crate) fn prints_as(alloc: Global, text: &str, printed: &str) -> Result<bool
     }
 }
 
-/// Returns the printed text of all tokens of a text, or `None` if the text cannot be read into
-/// tokens.
+/// Returns the text that `print` returns for all tokens of a text, or `None` if the text cannot be
+/// read into tokens.
 fn printed_again(alloc: Global, text: &str) -> Result<Option<String>, Memory>
     ensures { IfOk result (λ found.
         IfSome found (λ shown. ArePrinted text.now (string_bytes shown))) }

@@ -1,4 +1,4 @@
-//! Copies the `cfg` attributes of an item. Used by `logos_expand`.
+//! Copies the `cfg` attributes of an item to a text. Used by `logos_expand`.
 
 ghost use Rattle.std.specs.Prelude.{◌≡◌, ◌++◌, OnOk, codes, string_bytes};
 ghost use Rattle.logos_layout.specs.Imports.{after_word, attribute_condition, attribute_text, attribute_value, conditions_text, text_if, tokens_of};
@@ -10,7 +10,7 @@ use logos_token::util::after_word;
 use std::alloc::Global;
 
 /// Appends the `cfg` attributes among the leading attributes of an item to `text`, each on its own
-/// line. `item` are the tokens of the item.
+/// line. `item` contains the tokens of the item.
 ///
 /// # Errors
 ///
@@ -42,7 +42,7 @@ fn push_condition(
     }
 }
 
-/// Appends an attribute to `text`, on its own line, if it is a `cfg` attribute. `run` are the
+/// Appends an attribute to `text`, on its own line, if it is a `cfg` attribute. `run` contains the
 /// tokens between the brackets of the attribute.
 fn push_if_condition(alloc: Global, text: &mut String, run: Tokens<'_, '_>) -> Result<(), Memory>
     ensures { OnOk result (string_bytes text.new ≡ string_bytes text.old
@@ -54,8 +54,8 @@ fn push_if_condition(alloc: Global, text: &mut String, run: Tokens<'_, '_>) -> R
     }
 }
 
-/// Appends an attribute to `text`, on its own line. `run` are the tokens between the brackets of
-/// the attribute.
+/// Appends an attribute to `text`, on its own line. `run` contains the tokens between the brackets
+/// of the attribute.
 fn push_attribute(alloc: Global, text: &mut String, run: Tokens<'_, '_>) -> Result<(), Memory>
     ensures { OnOk result (string_bytes text.new
         ≡ string_bytes text.old ++ attribute_text (tokens_of run.entry)) }

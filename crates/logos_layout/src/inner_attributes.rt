@@ -1,5 +1,5 @@
-//! Turns the inner documentation and the inner attributes at the beginning of a file into plain
-//! comments. Used by `logos_expand`.
+//! Turns the inner documentation comments and the inner attributes at the beginning of a file into
+//! plain comments. Used by `logos_expand`.
 
 ghost use Rattle.std.specs.Prelude.{◌≡◌, ◌<◌, IfOk, IfSome, IsTrue, MatchOption, None, Some, string_bytes};
 ghost use Rattle.logos_layout.specs.Imports.{FollowsInner, IsInnerText, IsPlainly, Spells, after_brackets, after_inner, after_mark, count_of, is_inner, none, tokens_of};
@@ -10,19 +10,21 @@ use logos_token::error::Memory;
 use logos_token::token::{Delimiter, TokenError, TokenTree, Tokens, print, tokenize};
 use std::alloc::Global;
 
-/// Returns whether a Rust file with the tokens `tokens` begins with inner documentation or inner
-/// attributes.
+/// Returns whether a Rust file with the tokens `tokens` begins with an inner documentation comment
+/// or an inner attribute.
 pub fn has_inner(tokens: Tokens<'_, '_>) -> bool {
     read_inner(tokens).0 > 0
 }
 
-/// Returns a Rust file with its leading inner documentation and inner attributes turned into plain
-/// comments: `//!` becomes `//`, `/*!` becomes `/*`, and `#![..]` is put into `/* */`. Another file
-/// can then include the result. The tokens after the comments are unchanged.
+/// Returns a Rust file with its leading inner documentation comments and inner attributes turned
+/// into plain comments: `//!` becomes `//`, `/*!` becomes `/*`, and `#![..]` is put into `/* */`.
+/// Another file can then include the result. The other tokens are unchanged.
 ///
-/// Returns `None` if the file cannot be read into tokens, if it does not begin with inner
-/// documentation or inner attributes, or if the text of an attribute would end the comment around
-/// the attribute.
+/// Returns `None` in each of these cases:
+///
+/// - The file cannot be read into tokens.
+/// - The file does not begin with an inner documentation comment or an inner attribute.
+/// - The text of an attribute would end the comment around the attribute.
 ///
 /// # Errors
 ///
@@ -65,7 +67,7 @@ fn without_front(
 }
 
 /// Returns the plain comments that replace `front`, a text of inner documentation comments and
-/// inner attributes. Returns `None` if `front` is empty, if it spells anything else, or if the
+/// inner attributes. Returns `None` if `front` is empty or spells other tokens, or if the plain
 /// comments would spell tokens.
 fn plain_comments(alloc: Global, front: &str) -> Result<Option<String>, Memory>
     ensures { IfOk result (λ found. IfSome found
@@ -113,8 +115,8 @@ fn is_all_inner(run: Tokens<'_, '_>) -> bool
 }
 
 /// Returns the byte offset in the source at which the leading inner documentation comments and
-/// inner attributes of a run end, and the tokens after them. The offset is 0 if the run does not
-/// begin with any.
+/// inner attributes of a run end, and the tokens after them. The offset is 0 if the run begins with
+/// neither.
 fn read_inner<'t, 's>(run: Tokens<'t, 's>) -> (usize, Tokens<'t, 's>)
     ensures { FollowsInner (tokens_of run.entry) (tokens_of result.1) }
 {
@@ -127,8 +129,9 @@ fn read_inner<'t, 's>(run: Tokens<'t, 's>) -> (usize, Tokens<'t, 's>)
     (end, rest)
 }
 
-/// Returns the byte offset in the source at which the first inner documentation comment or inner
-/// attribute of a run ends, and the tokens after it. Returns `None` if the run begins with neither.
+/// Returns the byte offset in the source at which the inner documentation comment or inner
+/// attribute at the beginning of a run ends, and the tokens after this comment or attribute.
+/// Returns `None` if the run begins with neither.
 fn inner_at<'t, 's>(tokens: Tokens<'t, 's>) -> Option<(usize, Tokens<'t, 's>)>
     ensures { MatchOption result (after_inner (tokens_of tokens.entry) ≡ None)
         (λ read. (after_inner (tokens_of tokens.entry) ≡ Some (tokens_of read.1))
@@ -141,8 +144,8 @@ fn inner_at<'t, 's>(tokens: Tokens<'t, 's>) -> Option<(usize, Tokens<'t, 's>)>
     }
 }
 
-/// Returns the byte offset in the source at which the brackets end, and the tokens after the
-/// brackets, if a run begins with `!` and brackets. Returns `None` for any other run.
+/// Returns the byte offset in the source at which the brackets after a leading `!` end, and the
+/// tokens after these brackets. Returns `None` if the run does not begin with `!` and brackets.
 fn marked<'t, 's>(tokens: Tokens<'t, 's>) -> Option<(usize, Tokens<'t, 's>)>
     ensures { MatchOption result (after_mark (tokens_of tokens.entry) ≡ None)
         (λ read. (after_mark (tokens_of tokens.entry) ≡ Some (tokens_of read.1))
@@ -154,8 +157,8 @@ fn marked<'t, 's>(tokens: Tokens<'t, 's>) -> Option<(usize, Tokens<'t, 's>)>
     }
 }
 
-/// Returns the byte offset in the source at which the brackets end, and the tokens after the
-/// brackets, if a run begins with brackets. Returns `None` for any other run.
+/// Returns the byte offset in the source at which the leading brackets of a run end, and the tokens
+/// after these brackets. Returns `None` if the run does not begin with brackets.
 fn bracketed<'t, 's>(tokens: Tokens<'t, 's>) -> Option<(usize, Tokens<'t, 's>)>
     ensures { MatchOption result (after_brackets (tokens_of tokens.entry) ≡ None)
         (λ read. (after_brackets (tokens_of tokens.entry) ≡ Some (tokens_of read.1))
@@ -169,7 +172,7 @@ fn bracketed<'t, 's>(tokens: Tokens<'t, 's>) -> Option<(usize, Tokens<'t, 's>)>
     }
 }
 
-/// Returns whether a documentation comment is an inner one: whether its third byte is `!`.
+/// Returns whether a documentation comment is an inner one, that is, whether its third byte is `!`.
 fn is_inner(comment: &str) -> bool
     ensures { result ≡ is_inner comment.now }
 {

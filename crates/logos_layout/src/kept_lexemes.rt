@@ -14,9 +14,10 @@ struct Enclosing<'t, 's> {
 /// A cursor over the remaining tokens of a source.
 #[derive(Drop)]
 pub(crate) struct Staying<'t, 's> {
-    /// The rest of the innermost open group.
+    /// The tokens after the cursor in the innermost open group, or in the whole source if no group
+    /// is open.
     rest: Tokens<'t, 's>,
-    /// The byte offset at which the innermost open group ends.
+    /// The byte offset at which the innermost open group ends, or 0 if no group is open.
     to: usize,
     /// For each open group, from the outermost to the innermost, the tokens after the group and the
     /// end of the enclosing group.

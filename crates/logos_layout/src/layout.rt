@@ -21,7 +21,7 @@ pub struct Note {
 /// The settings of a layout.
 #[derive(Clone, Copy)]
 pub struct Setting<'n> {
-    /// The blanks before each line: spaces and tabs.
+    /// The spaces and tabs before each line.
     pub margin: &'n str,
     /// The comments that are inserted, in the order of their offsets.
     pub notes: &'n [Note],
@@ -31,14 +31,18 @@ pub struct Setting<'n> {
 /// except that the comments of `setting` are inserted.
 ///
 /// Each line begins with the margin of `setting`, with four blanks for each level of braces, and
-/// with four more blanks if the line continues another one. A line has at most 100 bytes if it can
-/// be broken at a blank. Lines end after `;`, after the braces of blocks, after commas between
-/// braces, after attributes and comments, and where the text has a line end. A lexeme such as
-/// `else` or `.` stays on the line of the braces before it. Short braces stay on one line.
+/// with four more blanks if the line continues the preceding one. A line has at most 100 bytes if
+/// it can be broken at a blank. Lines end after `;`, after the braces of blocks, after commas
+/// between braces, after attributes and comments, and where the text has a line end. A lexeme such
+/// as `else` or `.` stays on the line of the closing brace before it. Short braces stay on one
+/// line.
 ///
-/// The text must end with a group in braces. A text that ends otherwise, that cannot be read into
-/// tokens, or that is longer than 16,777,216 bytes in lines, is returned unchanged, with LF after
-/// it.
+/// The text must end with a group in braces. A text is returned unchanged, followed by LF, in each
+/// of these cases:
+///
+/// - The text does not end with a group in braces.
+/// - The text cannot be read into tokens.
+/// - The text in lines has more than 16,777,216 bytes.
 ///
 /// # Errors
 ///
@@ -56,7 +60,7 @@ pub fn lay_out(alloc: Global, text: &str, setting: Setting<'_>) -> Result<String
     unchanged(alloc, text)
 }
 
-/// Returns a text unchanged, with LF after it.
+/// Returns a text, unchanged, followed by LF.
 fn unchanged(alloc: Global, text: &str) -> Result<String, Memory>
     ensures { IfOk result (λ laid. IsLaidOut text.now (string_bytes laid)) }
 {

@@ -15,8 +15,8 @@ use std::alloc::Global;
 struct Layout {
     lines: WordLines,
     state: LayoutState,
-    /// The contents of the delimiters around the innermost open delimiter, from the outermost to
-    /// the innermost.
+    /// The contents of all open delimiters except the innermost one, beginning with the outermost
+    /// delimiter.
     outer: Vec<Open>,
 }
 
@@ -88,7 +88,7 @@ impl Layout {
         })
     }
 
-    /// Adds a lexeme of the class `next` to the layout. The lexeme is not a delimiter.
+    /// Adds a lexeme of the class `next` to the layout. The lexeme must not be a delimiter.
     fn add(&mut self, next: LexemeClass, lexeme: &str) -> Result<(), Memory> {
         self.put(next, lexeme)?;
         self.state = self.state.after(next);
@@ -144,7 +144,7 @@ fn first_byte(text: &str) -> u8 {
     }
 }
 
-/// Returns the kind of the gap that consists of the white space `space`. `space` is not empty.
+/// Returns the kind of the gap that consists of the white space `space`. `space` must not be empty.
 fn gap_of(space: &[u8]) -> Gap {
     let mut gap = Gap::Blank;
     for byte in space {
@@ -153,8 +153,8 @@ fn gap_of(space: &[u8]) -> Gap {
     gap
 }
 
-/// Returns the kind of a gap of the kind `gap` after `byte`, a byte of white space, is appended to
-/// it.
+/// Returns the kind of the gap that results when `byte`, a byte of white space, is appended to a
+/// gap of the kind `gap`.
 fn gap_with(gap: Gap, byte: u8) -> Gap {
     match (gap, byte) {
         (Gap::Line, b'\n') => Gap::EmptyLine,

@@ -3,13 +3,14 @@
 use logos_token::error::Memory;
 use std::alloc::Global;
 
-/// The maximum length of a line that can be broken at a blank, in bytes.
+/// The maximum length in bytes of a line that can be broken at a blank.
 const MAX_LINE: usize = 100;
 
 /// The separator before a word.
 #[derive(Clone, Copy)]
 pub(crate) enum WordLead {
-    /// A blank, or a line end and `depth` levels of indentation if the line would be too long.
+    /// A blank if the word fits into the line, and otherwise a line end and `depth` levels of
+    /// indentation.
     Blank { depth: usize },
     /// A line end and `depth` levels of indentation. An empty line precedes them if `is_apart` is
     /// `true`.
@@ -24,7 +25,7 @@ pub(crate) enum WordLead {
 pub(crate) struct WordLines {
     /// The lines so far, without the current word.
     text: String,
-    /// The blanks before each line.
+    /// The spaces and tabs before each line.
     margin: String,
     /// The number of bytes of the last line of `text`.
     column: usize,
@@ -73,7 +74,8 @@ impl WordLines {
         Ok(self.text)
     }
 
-    /// Appends the current word and the separator before it to the lines. The word is then empty.
+    /// Appends the current word and the separator before it to the lines. Afterwards, the current
+    /// word is empty.
     fn put_word(&mut self) -> Result<(), Memory> {
         self.put_lead()?;
         self.text.push_str(self.word.as_str())?;

@@ -5,12 +5,12 @@ ghost use Rattle.std.specs.Prelude.{◌<◌, IfSome, length};
 
 use logos_lexeme::lexeme::{LexemeKind, lexeme_at};
 
-/// The first lexeme or gap of a text, with the text after it.
+/// The first lexeme or gap of a text, and the text after it.
 #[derive(Clone, Copy)]
 pub(crate) struct FirstPiece<'t> {
     pub(crate) kind: LexemeKind,
     pub(crate) piece: &'t str,
-    /// The text after the piece.
+    /// The text after the lexeme or gap.
     pub(crate) rest: &'t str,
 }
 

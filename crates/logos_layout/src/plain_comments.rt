@@ -1,4 +1,5 @@
-//! Turns inner documentation and inner attributes into plain comments. Used by `inner_attributes`.
+//! Turns inner documentation comments and inner attributes into plain comments. Used by
+//! `inner_attributes`.
 //!
 //! The result is untrusted: the caller checks that it spells no tokens.
 
@@ -31,9 +32,9 @@ fn depth_after(kind: LexemeKind, depth: usize) -> usize {
     }
 }
 
-/// Appends `piece`, a lexeme or gap inside `depth` delimiters, to `plain`. A comment begins before
-/// the `#` of an attribute and ends after the brackets of the attribute. A documentation comment
-/// becomes a plain one.
+/// Appends `piece`, a lexeme or gap inside `depth` open delimiters, to `plain`. Begins a comment
+/// before the `#` of an attribute, and ends it after the brackets of the attribute. Turns a
+/// documentation comment into a plain comment.
 fn push_piece(
     plain: &mut String,
     kind: LexemeKind,

@@ -1,5 +1,5 @@
-//! The state of a layout: the properties of the lexemes so far that determine the separator before
-//! the next lexeme. Used by `line_breaks`.
+//! Defines the state of a layout: the properties of the lexemes so far that determine the separator
+//! before the next lexeme. Used by `line_breaks`.
 
 use crate::blanks::is_blank;
 use crate::classes::{LexemeClass, Role};
@@ -22,20 +22,20 @@ pub(crate) enum Open {
 /// The kind of the gap before the next lexeme, according to the line ends in the gap.
 #[derive(Clone, Copy, PartialEq, Eq)]
 pub(crate) enum Gap {
-    /// No byte: there is no gap.
+    /// No gap.
     Nothing,
-    /// No line end.
+    /// A gap without a line end.
     Blank,
-    /// One line end.
+    /// A gap with one line end.
     Line,
-    /// More than one line end.
+    /// A gap with more than one line end.
     EmptyLine,
 }
 
 /// The kind of the unit that ends with the last lexeme.
 #[derive(Clone, Copy, PartialEq, Eq)]
 pub(crate) enum LastEnd {
-    /// Neither a line nor braces.
+    /// No unit: neither a line nor braces.
     Nothing,
     /// A line.
     Line,
@@ -107,8 +107,8 @@ impl LayoutState {
         }
     }
 
-    /// Returns the number of levels of four blanks before the next lexeme. The lexeme has the class
-    /// `next` and begins a line.
+    /// Returns the number of levels of four blanks before the next lexeme. The lexeme must begin a
+    /// line. `next` is the class of the lexeme.
     fn depth_before(self, next: LexemeClass) -> usize {
         if closes_block(self.inner, next) {
             return self.depth.saturating_sub(1);
@@ -153,7 +153,7 @@ impl LayoutState {
         }
     }
 
-    /// Returns the state after a lexeme of the class `next`. The lexeme is not a delimiter.
+    /// Returns the state after a lexeme of the class `next`. The lexeme must not be a delimiter.
     pub(crate) fn after(self, next: LexemeClass) -> LayoutState {
         LayoutState {
             types: types_after(next, self.types),
@@ -164,7 +164,8 @@ impl LayoutState {
         }
     }
 
-    /// Returns the unit that ends with a lexeme of the class `next`. The lexeme is not a delimiter.
+    /// Returns the unit that ends with a lexeme of the class `next`. The lexeme must not be a
+    /// delimiter.
     fn end_at(self, next: LexemeClass) -> LastEnd {
         let ends = match next {
             LexemeClass::Comment => true,
@@ -180,8 +181,9 @@ impl LayoutState {
     }
 }
 
-/// Returns whether a lexeme of the class `next` closes a block: whether it is a closing delimiter,
-/// and the content `inner` of the innermost open delimiter is separate lines.
+/// Returns whether a lexeme of the class `next` closes a block, that is, whether the lexeme is a
+/// closing delimiter and ends separate lines. `inner` is the content of the innermost open
+/// delimiter.
 fn closes_block(inner: Open, next: LexemeClass) -> bool {
     matches!(inner, Open::Block) & matches!(next, LexemeClass::Closing(_))
 }

@@ -21,8 +21,8 @@ struct Thinned {
     depth: usize,
 }
 
-/// Returns the text of `source` after removing all lexemes that do not belong to the tokens `left`.
-/// The result ends before the first byte of `source` that cannot be read into a lexeme.
+/// Returns the text of `source` without the lexemes that do not belong to the tokens `left`. The
+/// result ends before the first byte of `source` that cannot be read into a lexeme.
 ///
 /// A line that contains only removed lexemes is removed with them. Comments remain, except inside
 /// removed delimiters and after the last remaining lexeme.
@@ -114,8 +114,8 @@ impl Thinned {
     }
 
     /// Replaces the gap before a removed lexeme by `space`, the white space after the lexeme, if
-    /// `space` has a line end and the gap has none. Leaves out `space` otherwise, and at the
-    /// beginning of the text.
+    /// `space` has a line end and the gap has none. Otherwise, and at the beginning of the text,
+    /// leaves out `space`.
     fn join_gap(&mut self, space: &str) -> Result<(), Memory> {
         self.is_cut = false;
         if self.has_line | self.text.is_empty() | !has_line(space.as_bytes()) {

@@ -9,11 +9,12 @@ use logos_token::error::Memory;
 use logos_token::token::{Tokens, print};
 use std::alloc::Global;
 
-/// Returns the text of `left`, the remaining tokens of `source`, with the comments and the layout
-/// of the source. A line that has lost all its tokens is removed unless it has a comment.
+/// Returns the text of the tokens `left`, with the comments and the layout of `source`. A line that
+/// has lost all its tokens is removed unless it has a comment.
 ///
-/// `left` consists of tokens of the source in order, with their spans in the source. A group may
-/// have lost tokens. For any other tokens, returns the text that `print` returns.
+/// `left` consists of the remaining tokens of the source in source order, with their spans in the
+/// source. A group may have lost tokens. For any other tokens, returns the text that `print`
+/// returns.
 ///
 /// # Errors
 ///

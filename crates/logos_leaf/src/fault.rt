@@ -1,5 +1,5 @@
-//! Reports the faults of leaves. Each function reports one kind of fault. `leaf` calls these
-//! functions.
+//! Functions that report the faults of leaves. Each function reports one kind of fault. Called by
+//! `leaf`.
 
 ghost use Rattle.std.specs.Prelude.{OnOk};
 ghost use Rattle.logos_leaf.specs.Imports.{AddsFault, greedy_dot, priority_overflow};

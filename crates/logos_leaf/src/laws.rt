@@ -1,12 +1,11 @@
-//! Laws of reading enums. No code calls these functions. The contract of each function is a proved
-//! law.
+//! Laws about the reading of enums. No code calls these functions. The contract of each function is
+//! a proved law.
 
 ghost use Rattle.std.specs.Prelude.{◌≡◌, List, [], map, Option, Some, None};
 ghost use Rattle.logos_leaf.specs.Imports.{Fault, Tree, EnumValue, Slice, ident_slice, plain, holding, skipped, OptionsView, LeafView, ReadsSource};
 
-/// An enum without faults has exactly one reading. Any other reading of the enum has no fault, the
-/// same options, and the same leaves. The names of variants are compared by their texts and their
-/// spans.
+/// If one reading of an enum has no fault, then every reading of the enum has no fault, the same
+/// options, and the same leaves. The names of variants are compared by their texts and their spans.
 pub fn one_source()
     ensures no_fault { (item : EnumValue) (o p : OptionsView) (leaves others : List LeafView)
         (faults : List Fault) → ReadsSource item o leaves [] → ReadsSource item p others faults →

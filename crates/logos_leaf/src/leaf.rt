@@ -45,8 +45,8 @@ fn leaf_with<'s>(
         .options(options)
 }
 
-/// Returns the priority of a `token`: the priority in its definition if there is one, and otherwise
-/// twice the number of bytes of its literal's value.
+/// Returns the priority of a `token`: the priority in `definition` if there is one, and otherwise
+/// twice the number of bytes of the literal's value.
 fn priority_of(definition: &Definition<'_>) -> usize
     ensures { result ≡ token_priority (definition_view definition.now) }
 {
@@ -284,9 +284,13 @@ fn whole_text(
     subpatterns.subst_subpatterns(alloc, text.as_str(), literal.span(), errors)
 }
 
-/// Returns the pattern of a `regex` or `skip`, and its priority. If a subpattern is missing, the
-/// text cannot be read as a pattern, or the default priority does not fit `usize`, reports the
-/// fault and returns `None`.
+/// Returns the pattern of a `regex` or `skip`, and its priority.
+///
+/// Reports a fault and returns `None` if one of these conditions holds:
+///
+/// - A subpattern is missing.
+/// - The text cannot be read as a pattern.
+/// - The default priority does not fit `usize`.
 fn regex_pattern<'s>(
     definition: &Definition<'s>,
     subpatterns: &Subpatterns<'s>,
@@ -333,11 +337,16 @@ fn read_leaf<'s>(
     }
 }
 
-/// Returns the leaf of a `regex` or `skip`.
+/// Returns the leaf of a `regex` or `skip`, or `None` if a fault prevents the leaf.
 ///
-/// If a subpattern is missing, the text cannot be read as a pattern, or the default priority does
-/// not fit `usize`, reports the fault and returns `None`. Also reports a greedy dot, unless the
-/// definition allows greedy dots. A greedy dot alone does not prevent the leaf.
+/// Reports a fault and returns `None` if one of these conditions holds:
+///
+/// - A subpattern is missing.
+/// - The text cannot be read as a pattern.
+/// - The default priority does not fit `usize`.
+///
+/// Also reports a greedy dot, unless the definition allows greedy dots. A greedy dot alone does not
+/// prevent the leaf.
 ///
 /// # Errors
 ///

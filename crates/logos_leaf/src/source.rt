@@ -15,7 +15,7 @@ use logos_token::token::Tokens;
 use std::collections::HashSet;
 use std::mem;
 
-/// Reads the generic parameters of an enum into `parser`, in order.
+/// Reads the generic parameters of an enum into `parser`, in source order.
 fn read_parameters<'s>(
     parameters: &[Parameter<'_, 's>],
     parser: &mut Parser<'s>,
@@ -29,7 +29,7 @@ fn read_parameters<'s>(
     Ok(())
 }
 
-/// Reads the options in the attributes of an enum into `parser`, in order.
+/// Reads the options in the attributes of an enum into `parser`, in source order.
 fn read_attributes<'s>(attributes: Tokens<'_, 's>, parser: &mut Parser<'s>) -> Result<(), Memory>
     ensures { OnOk result (ReadsAttributes (parser_view parser.old) (parser_view parser.new)
         parser.old.errors parser.new.errors (tokens_of attributes.entry)) }
@@ -116,7 +116,7 @@ fn make_leaves<'s>(
 ///
 /// # Errors
 ///
-/// Returns `Memory` if memory runs out. Do not use the parser after this error.
+/// Returns `Memory` if memory runs out. The parser must not be used after this error.
 pub fn read_leaves<'s>(
     item: &ItemEnum<'_, 's>,
     parser: &mut Parser<'s>,

@@ -58,7 +58,7 @@ fn is_word(byte: u8) -> bool
         | (((b'`' < byte) & (byte < b'{')) | (byte == b'_'))
 }
 
-/// Returns whether all `bytes` can occur in the name of a subpattern.
+/// Returns whether each of `bytes` can occur in the name of a subpattern.
 fn are_words(bytes: &[u8]) -> bool
     ensures { result ≡ list_all is_word bytes.now }
 {
@@ -278,9 +278,9 @@ impl<'s> Subpatterns<'s> {
         self.store(named.0, pattern, errors)
     }
 
-    /// Reads `text`, the text of a subpattern, as a pattern. Stores the subpattern if the text is a
-    /// pattern that `utf8_mode` allows, and reports the fault otherwise. `named` contains the name
-    /// and the literal of the subpattern.
+    /// Reads `text`, the text of a subpattern, as a pattern. Stores the subpattern if the text can
+    /// be read and, in UTF-8 mode, the pattern cannot match invalid UTF-8. Otherwise reports the
+    /// fault. `named` contains the name and the literal of the subpattern.
     fn test(
         &mut self,
         utf8_mode: bool,
@@ -347,10 +347,11 @@ impl<'s> Subpatterns<'s> {
         Ok(subpatterns)
     }
 
-    /// Returns the subpatterns with the names and literals in `list`, in order.
+    /// Returns the subpatterns with the names and literals in `list`.
     ///
-    /// A subpattern can use the subpatterns before it. A later subpattern replaces an earlier one
-    /// with the same name. Reports all faults. A subpattern with a fault of its own is omitted.
+    /// A subpattern can use the subpatterns that precede it in `list`. A later subpattern replaces
+    /// an earlier one with the same name. Reports all faults. A subpattern with a fault of its own
+    /// is omitted.
     ///
     /// # Errors
     ///
@@ -372,9 +373,10 @@ impl<'s> Subpatterns<'s> {
         Ok(subpatterns)
     }
 
-    /// Returns `pattern` with each `(?&name)`, from the left, replaced by the text of the
-    /// subpattern `name`. The substituted texts are not searched for names. If subpatterns are
-    /// missing, reports each use of a missing subpattern at `span` and returns `None`.
+    /// Returns `pattern` with each `(?&name)` replaced by the text of the subpattern `name`.
+    /// Searches `pattern` from left to right, and does not search the substituted texts. If
+    /// subpatterns are missing, reports each use of a missing subpattern at `span` and returns
+    /// `None`.
     ///
     /// # Errors
     ///

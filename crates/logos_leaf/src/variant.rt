@@ -31,7 +31,8 @@ pub struct Types<'p, 's> {
 }
 
 /// Returns the kind of the variant `name` with the field `field`. The type parameters in the
-/// field's type are replaced by their types. Reports the field if its type becomes too deep.
+/// field's type are replaced by their types. Reports the field if the resulting type is nested too
+/// deeply.
 fn value_kind<'s>(
     types: Types<'_, 's>,
     name: Ident<'s>,
@@ -72,8 +73,8 @@ fn tuple_kind<'s>(
     value_kind(types, name, first, errors)
 }
 
-/// Returns the kind of the variant `name` with `fields`. Reports fields that are not supported. The
-/// kind of a variant with named fields is `Skip`.
+/// Returns the kind of the variant `name` with `fields`. Reports named fields, and parentheses that
+/// do not contain exactly one field. The kind of a variant with named fields is `Skip`.
 fn kind_of<'s>(
     types: Types<'_, 's>,
     name: Ident<'s>,

@@ -1,8 +1,9 @@
-//! Finds the kind and the end of the lexeme or gap at a byte offset of a source.
+//! `lexeme_at` finds the kind and the end of the lexeme or gap at a byte offset of a source.
 //!
-//! `lexeme_at` reads a literal if a literal opens at the offset, otherwise a comment, and otherwise
-//! the lexeme or gap that the character at the offset begins. Each byte is examined at most a few
-//! times. `logos_token` calls `lexeme_at` at each offset at which a lexeme or a gap begins.
+//! The function reads a literal if a literal begins at the offset, otherwise a comment, and
+//! otherwise the lexeme or gap that begins with the character at the offset. The number of times
+//! that a byte is examined is bounded by a constant. `logos_token` calls `lexeme_at` at each offset
+//! at which a lexeme or a gap begins.
 
 ghost use Rattle.std.specs.Prelude.{◌<◌, length, IfOk, IfErr};
 ghost use Rattle.logos_lexeme.specs.Views.{IsCharBoundary, IsNext, IsStuck};
@@ -75,21 +76,26 @@ pub enum LexicalKind {
     BadLiteral,
     /// A literal or a comment without an end. The span reaches to the end of the text.
     Unterminated,
-    /// A delimiter without its partner.
+    /// A delimiter without a matching delimiter.
     Unbalanced,
 }
 
-/// Returns the kind of the lexeme or gap at the byte offset `from`, and the byte offset after it.
+/// Returns the kind of the lexeme or gap at the byte offset `from`, and the byte offset after the
+/// lexeme or gap.
 ///
 /// Consecutive white space is one gap, and each comment that is not documentation is a gap of its
 /// own.
 ///
 /// # Errors
 ///
-/// Returns `BadCharacter` with the span of the character if no lexeme or gap begins with the
-/// character, `Unterminated` with the span up to the end of the source if a literal or a comment
-/// does not end, and `BadLiteral` with the span of the literal without its suffix if the literal is
-/// malformed. Never returns `Unbalanced`, because this function does not match delimiters.
+/// Returns:
+///
+/// - `BadCharacter` with the span of the character if no lexeme or gap begins with the character
+/// - `Unterminated` with the span up to the end of the source if a literal or a comment does not
+///   end
+/// - `BadLiteral` with the span of the literal without its suffix if the literal is malformed
+///
+/// Never returns `Unbalanced`, because this function does not match delimiters.
 pub fn lexeme_at(source: &str, from: usize) -> Result<(LexemeKind, usize), (LexicalKind, Span)>
     requires inside { from < length source.now }
     requires boundary { IsCharBoundary source.now from }

@@ -1,4 +1,5 @@
-//! Indexes of the lines of a text. Reports and tables create an index for each file that they show.
+//! Defines indexes of the lines of a text. The printers of reports and of tables create an index
+//! for each file that they show.
 
 ghost use Rattle.std.specs.Prelude.{◌≡◌, ◌<◌, ◌≤◌, ◌+◌, ◌^◌, ◌∷◌, [], ℕ, List, Some, None, ◌⊎◌, IfOk, IfSome, MatchOption, OnOk, IsCharBoundary, ◌++◌, ◌==◌, if◌then◌else◌, length, drop};
 ghost use Rattle.logos_lines.specs.Views.{location_at, ends_line, line_length, ends_search, next_column, AreStarts, AreStops, IsLineOf, IsLongLine, IsNoLine, IsStart};
@@ -127,7 +128,7 @@ fn line_starts(alloc: Global, text: &str) -> Result<Vec<usize>, AllocError>
     Ok(starts)
 }
 
-/// Appends the offset after `at` to `starts` if `byte`, the byte at `at`, is LF.
+/// Appends the offset after `at` to `starts` if the byte `byte` at the offset `at` is LF.
 fn push_start(starts: &mut Vec<usize>, at: usize, byte: u8) -> Result<(), AllocError>
     requires { at + 1 < 2 ^ 64 }
     ensures { OnOk result (starts.new.items ≡ (if byte == 10 then starts.old.items ++ (at + 1) ∷ []
@@ -161,7 +162,7 @@ fn ends_search(byte: u8, reached: usize, column: usize) -> bool
     !continues(byte) & ((reached == column) | (byte == b'\n'))
 }
 
-/// Returns the column after `byte`, a byte other than LF in the column `column`.
+/// Returns the column after the byte `byte`, which is in the column `column` and must not be LF.
 fn next_column(byte: u8, column: usize) -> usize
     requires { column + 1 < 2 ^ 64 }
     ensures { result ≡ next_column byte column }

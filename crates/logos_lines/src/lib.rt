@@ -1,4 +1,5 @@
-//! Lines and columns of a text, for reports of faults and for tables.
+//! Conversions between the byte offsets of a text and lines and columns. Used for reports of faults
+//! and for tables.
 
 #![tactic(auto)]
 

@@ -18,7 +18,7 @@ impl Location {
         Location { line: 1, column: 1 }
     }
 
-    /// Returns the location after `byte`, a byte at this location.
+    /// Returns the location after the byte `byte` at this location.
     pub(crate) fn after(self, byte: u8) -> Location
         requires line { self.line + 1 < 2 ^ 64 }
         requires column { self.column + 1 < 2 ^ 64 }

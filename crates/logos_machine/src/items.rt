@@ -8,7 +8,7 @@ use logos_hir::leaf::LeafId;
 use std::alloc::{AllocError, Global};
 
 impl<'c, 's, 'i, C: Fn(LeafId, &[u8]) -> Action + Drop> Lexer<'c, 's, 'i, C> {
-    /// Returns all remaining items, in order.
+    /// Returns all remaining items, in the order of their spans.
     ///
     /// # Errors
     ///

@@ -6,8 +6,8 @@ ghost use Rattle.logos_machine.specs.Views.{answers_of, EndIsRun, NextAddsItem, 
 use crate::machine::Action;
 use logos_hir::leaf::LeafId;
 
-/// If `next` returns an item, the items that the lexer has returned are the earlier items followed
-/// by this item.
+/// If `next` returns an item, the list of the items that the lexer has returned grows by exactly
+/// this item, at its end.
 pub fn next_adds_its_item<C: Fn(LeafId, &[u8]) -> Action>(_callback: &C)
     ensures { NextAddsItem C.Fn }
 {}
@@ -27,20 +27,20 @@ pub fn runs_go_over<C: Fn(LeafId, &[u8]) -> Action, D: Fn(LeafId, &[u8]) -> Acti
     ensures { RunsGoOver (answers_of C.Fn callback.now) (answers_of D.Fn other.now) }
 {}
 
-/// An attempt that examines only the first bytes of an input has the same result in each input that
-/// begins with these bytes.
+/// A match attempt that examines only the first bytes of an input has the same result in each input
+/// that begins with these bytes.
 pub fn attempts_agree()
     ensures { AttemptsAgree }
 {}
 
-/// A run does not depend on preceding bytes. If bytes are inserted before the input, there is a run
-/// with equal items. The spans of these items are shifted by the number of inserted bytes.
+/// A run of a code does not depend on preceding bytes. If bytes are inserted before the input,
+/// there is a run with equal items, whose spans are shifted by the number of inserted bytes.
 pub fn runs_go_later<C: Fn(LeafId, &[u8]) -> Action>(callback: &C)
     ensures { RunsGoLater (answers_of C.Fn callback.now) }
 {}
 
-/// If a lexer finds items in consecutive parts of an input, and no later byte can change these
-/// items, they are the items of the whole input.
+/// If a lexer finds items in consecutive parts of an input, and no later byte can change the items
+/// of a part, the items of all parts are the items of the whole input.
 pub fn parts_are_of_the_whole<C: Fn(LeafId, &[u8]) -> Action>(callback: &C)
     ensures { PartsAreOfTheWhole (answers_of C.Fn callback.now) }
 {}

@@ -1,5 +1,5 @@
-//! Lexers, which run codes on whole inputs or part by part. Used by `logos_scan`, `logos_stream`
-//! and `logos_relex`.
+//! Defines lexers, which run codes on whole inputs or part by part. Used by `logos_scan`,
+//! `logos_stream` and `logos_relex`.
 
 #![tactic(auto)]
 

@@ -1,5 +1,5 @@
-//! Lexers, which run codes on inputs and return the items of an input one at a time. Used by
-//! `logos_scan`, `logos_stream`, `logos_relex` and users of the library.
+//! Defines lexers. A lexer runs a code on an input and returns the items of the input one at a
+//! time. Used by `logos_scan`, `logos_stream` and `logos_relex`. Part of the public interface.
 
 ghost use Rattle.std.specs.Prelude.{◌≡◌, ◌<◌, ◌≤◌, length, option_map, slice_range, MatchBool, MatchOption, IfOk, IfErr, IsTrue, IsUtf8, drop, None};
 ghost use Rattle.logos_machine.specs.Views.{IsValidUpTo, calls_back_for, token, error, answers_of, begun, item_of, Yields, Ends, Keeps, MatchYields, Takes, TakesMatches};
@@ -27,8 +27,8 @@ pub enum Item<'i> {
         span: Span,
         slice: &'i [u8],
     },
-    /// An error: bytes that no leaf matches if `leaf` is `None`, and otherwise a match of `leaf`
-    /// for which the callback returned `Error`.
+    /// An error. If `leaf` is `None`, no leaf matches the bytes at the span. Otherwise, the bytes
+    /// are a match of `leaf` for which the callback returned `Error`.
     Error {
         leaf: Option<LeafId>,
         span: Span,
@@ -36,7 +36,7 @@ pub enum Item<'i> {
     },
 }
 
-/// The error for an input that is not UTF-8 if the lexer is in UTF-8 mode.
+/// The error that occurs if a lexer is in UTF-8 mode but its input is not UTF-8.
 #[derive(Clone, Copy, Debug, PartialEq, Eq)]
 pub struct NotUtf8 {
     /// The length in bytes of the longest prefix of the input that is UTF-8.
@@ -107,9 +107,9 @@ impl<'c, 's, 'i, C: Fn(LeafId, &[u8]) -> Action> Lexer<'c, 's, 'i, C> {
         Ok(Lexer::start(code, input, callback))
     }
 
-    /// Returns a lexer at the start of an input of bytes, which must be UTF-8 if the code is in
-    /// UTF-8 mode. `logos_stream` calls this function because it validates bytes when it reads
-    /// them.
+    /// Returns a lexer at the start of an input of bytes. The bytes must be UTF-8 if the code is in
+    /// UTF-8 mode. `logos_stream` calls this function because it has validated the bytes while
+    /// reading them.
     pub fn new_checked(code: &'c Code<'s>, input: &'i [u8], callback: C) -> Lexer<'c, 's, 'i, C>
         requires { IsTrue code.now.utf8 → IsUtf8 input.now }
         ensures { result ≡ begun code.now input.now callback }
@@ -192,9 +192,9 @@ impl<'c, 's, 'i, C: Fn(LeafId, &[u8]) -> Action> Lexer<'c, 's, 'i, C> {
     }
 
     /// Returns the span of the last item, in bytes of the input. The span is `0..0` before the
-    /// first item. After `next` has returned `None`, the span is empty and at the end of the input.
-    /// After `next_within` has returned `More`, the span is empty and at the start of the next
-    /// match attempt.
+    /// first item. After `next` has returned `None`, the span is empty and lies at the end of the
+    /// input. After `next_within` has returned `More`, the span is empty and lies at the start of
+    /// the next match attempt.
     pub fn span(&self) -> Span
         ensures { result ≡ record { from = self.now.from; to = self.now.to } }
     {

@@ -1,4 +1,5 @@
-//! Appends the line of JSON for a fault. Used by `messages` and `notes`.
+//! Functions that append the line of JSON for a fault. `messages` calls `push_fault_line` for each
+//! fault that has a line.
 
 ghost use Rattle.std.specs.Prelude.{◌≡◌, None, false, IfOk, IfSome, OnOk, option_map, string_bytes};
 ghost use Rattle.logos_messages.specs.Imports.{HasLongLine, YieldsMessage, PutsFault, InReport, fault_head, fault_of, fault_texts};
@@ -69,8 +70,8 @@ fn push_message(
     lines.end_object();
 }
 
-/// Returns the report of a fault without colors, or `None` if the span of the fault begins or ends
-/// in a long line.
+/// Returns the report of a fault, without colors. Returns `None` if the span of the fault begins or
+/// ends in a line of more than 400 bytes.
 fn rendered(
     alloc: Global,
     message: FaultMessage<'_, '_, '_, '_>,

@@ -1,5 +1,5 @@
-//! Appends the first members of the line for a fault or a warning. Used by `fault`, `rest_line` and
-//! `warnings`.
+//! Functions that append the first members of the line for a fault or a warning. Used by `fault`,
+//! `rest_line` and `warnings`.
 
 ghost use Rattle.std.specs.Prelude.{◌≡◌, ◌++◌, [], ◌∷◌, codes, if◌then◌else◌};
 ghost use Rattle.logos_messages.specs.Imports.{Gains, code_member, error_tokens, fault_head, fault_of, level_of, message_tokens, name_of};
@@ -8,8 +8,8 @@ use logos_json::JsonLines;
 use logos_report::{first_line, is_error};
 use logos_token::error::{FaultCode, SpannedError};
 
-/// Appends the marker of a diagnostic, the first line of a fault's message, and the code and the
-/// level of the fault.
+/// Appends the first members of the line for a fault: the marker of a diagnostic, the first line of
+/// the fault's message, and the code and the level of the fault.
 pub(crate) fn push_head(lines: &mut JsonLines, fault: &SpannedError)
     ensures { Gains (fault_head (fault_of fault.now)) lines.old lines.new }
 {
@@ -18,7 +18,7 @@ pub(crate) fn push_head(lines: &mut JsonLines, fault: &SpannedError)
     lines.push_text("level", level_of(fault.code));
 }
 
-/// Appends the marker of a diagnostic and its message, as members.
+/// Appends a member with the marker of a diagnostic, and a member with the message `message`.
 pub(crate) fn push_message(lines: &mut JsonLines, message: &str)
     ensures { Gains (message_tokens message.now) lines.old lines.new }
 {

@@ -1,4 +1,5 @@
-//! Appends the lines of a span, with the columns of the span in each line. Used by `spans`.
+//! Functions that append the lines of a span, with the columns of the span in each line. Used by
+//! `spans`.
 
 ghost use Rattle.std.specs.Prelude.{◌≡◌, ◌≤◌, [], ◌∷◌, length, chars};
 ghost use Rattle.logos_messages.specs.Imports.{Gains, YieldsLineList, YieldsLines, first_column, last_column, marked_tokens};
@@ -7,7 +8,8 @@ use logos_json::JsonLines;
 use logos_lines::Location;
 use logos_report::Source;
 
-/// The maximum number of lines after the first line of a span whose lines are shown.
+/// The maximum number of lines after the first line of a span. No lines are shown for a span with
+/// more lines.
 const LINES: usize = 8;
 
 /// The maximum length in bytes of a line that is shown.
@@ -92,8 +94,8 @@ fn char_count(text: &str) -> usize
     text.chars().count()
 }
 
-/// Appends the object of a line with the text `text`. A span has the columns `from..to` in this
-/// line.
+/// Appends the object of a line with the text `text`. The span covers the columns `from..to` of
+/// this line.
 fn push_marked(lines: &mut JsonLines, text: &str, from: usize, to: usize)
     ensures { Gains (marked_tokens (record { text = text.now; from = from; to = to })) lines.old
         lines.new }

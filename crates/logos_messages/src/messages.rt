@@ -1,5 +1,5 @@
-//! Appends a line of JSON for each fault of a source, but for at most 50 faults with one code. Used
-//! by `logos_expand` and `logos_show`.
+//! Functions that append a line of JSON for each fault of a source, but for at most 50 faults with
+//! one code. Used by `logos_expand` and `logos_show`.
 
 ghost use Rattle.std.specs.Prelude.{◌≡◌, ◌≤◌, ◌<◌, ◌+◌, ◌++◌, List, ℕ, IfOk, OnErr, OnOk, length, take};
 ghost use Rattle.logos_json.specs.Lines.{LinesValue};
@@ -15,7 +15,7 @@ use logos_report::{
 use logos_token::error::{Errors, Memory};
 use std::alloc::{AllocError, Global};
 
-/// Appends a line of JSON for each fault of a part of a file, in order.
+/// Appends a line of JSON for each fault of a part of a file, in the order of `errors`.
 ///
 /// A line has the members of rustc's diagnostics. The member `rendered` is the report that
 /// `push_faults` appends, without colors. The clues about a fault are among its notes.
@@ -23,8 +23,8 @@ use std::alloc::{AllocError, Global};
 /// At most 50 faults with one code have a line. Instead of the 51st fault, a line of the level
 /// `failure-note` states the number of faults that are left out. Lines of the file that have more
 /// than 400 bytes are left out, and `rendered` is null if the span of the fault begins or ends in
-/// such a line. Thus the appended lines take memory linear in the messages of the faults that have
-/// a line.
+/// such a line. Thus the memory for the appended lines is linear in the length of the messages of
+/// the faults that have a line.
 ///
 /// # Errors
 ///
@@ -45,8 +45,8 @@ pub fn push_messages(
     Ok(())
 }
 
-/// Appends the lines for the faults of the parts `refused` of a file, in order, as `push_messages`
-/// does. At most 50 faults with one code in all parts together have a line.
+/// Appends the lines for the faults of the parts `refused` of a file, part by part, as
+/// `push_messages` does. At most 50 faults with one code in all parts together have a line.
 ///
 /// # Errors
 ///
@@ -145,8 +145,8 @@ fn push_part(
     Ok(())
 }
 
-/// Appends the lines for the faults `listing.faults` of a part. `first` has the clues about these
-/// faults, beginning with the first fault.
+/// Appends the lines for the faults `listing.faults` of a part. `first` contains the clues about
+/// these faults, beginning with the first fault.
 fn push_all(
     lines: &mut JsonLines,
     alloc: Global,

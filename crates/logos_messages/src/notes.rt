@@ -1,5 +1,5 @@
-//! Appends the notes and the help of a fault or a warning. Used by `fault`, `rest_line` and
-//! `warnings`.
+//! Functions that append the notes and the help of a fault or a warning. Used by `fault`,
+//! `rest_line` and `warnings`.
 
 ghost use Rattle.std.specs.Prelude.{◌≡◌, [], ◌∷◌, option_map, string_bytes};
 ghost use Rattle.logos_messages.specs.Imports.{Gains, YieldsNoteList, YieldsNotes, list_member, note_tokens, nothing_tokens};
@@ -35,7 +35,7 @@ fn push_put_in(lines: &mut JsonLines, put_in: &Option<String>)
 }
 
 /// Appends a note for each of the first 50 patterns that can examine bytes before the start of a
-/// match. The note has the name of the leaf.
+/// match. The text of the note is the name of the pattern's leaf.
 fn push_starts(lines: &mut JsonLines, starts: &[Start])
     ensures { YieldsNotes lines.old lines.new }
 {
@@ -63,7 +63,7 @@ fn push_known(lines: &mut JsonLines, member: Option<Member<'_>>)
     }
 }
 
-/// Returns a reference to the text, or `None` if `text` is `None`.
+/// Returns a reference to the text in `text`, or `None` if `text` is `None`.
 pub(crate) fn text_of(text: &Option<String>) -> Option<&str>
     ensures { option_map (λ t. t.now) result ≡ option_map string_bytes text.now }
 {
@@ -73,7 +73,8 @@ pub(crate) fn text_of(text: &Option<String>) -> Option<&str>
     }
 }
 
-/// Appends the object of a note or a help with the text `text`. `level` is `note` or `help`.
+/// Appends the object of a note or a help with the text `text`, as `push_note` does. `level` is
+/// `note` or `help`.
 pub(crate) fn push_one(lines: &mut JsonLines, level: &str, text: &str)
     ensures { YieldsNotes lines.old lines.new }
 {
@@ -89,8 +90,8 @@ fn push_other_lines(lines: &mut JsonLines, message: &str)
     }
 }
 
-/// Appends a note with a line of a message, without the leading blanks of the line. Appends nothing
-/// if the line is empty.
+/// Appends a note with the line `text` of a message, without the leading blanks of the line.
+/// Appends nothing if the line is empty.
 fn push_other_line(lines: &mut JsonLines, text: &str)
     ensures { YieldsNotes lines.old lines.new }
 {
@@ -108,7 +109,8 @@ fn push_help(lines: &mut JsonLines, help: Option<&str>)
     }
 }
 
-/// Appends the object of a note or a help with the text `text`. `level` is `note` or `help`.
+/// Appends the object of a note or a help: the text `text`, the level `level`, and the members that
+/// are empty in a note. `level` is `note` or `help`.
 fn push_note(lines: &mut JsonLines, level: &str, text: &str)
     ensures { Gains (note_tokens (record { level = level.now; text = text.now })) lines.old lines.new }
 {

@@ -1,4 +1,5 @@
-//! Appends the line that states how many faults with a code are left out. Used by `messages`.
+//! Functions that append the line that states how many faults with a code are left out. Used by
+//! `messages`.
 
 ghost use Rattle.std.specs.Prelude.{◌≡◌, ◌++◌, ◌∷◌, [], false, IfOk, OnOk, codes, decimal, string_bytes};
 ghost use Rattle.logos_messages.specs.Imports.{Gains, PutsRest, InReport, left_out_tokens, rest_line};

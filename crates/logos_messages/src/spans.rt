@@ -1,4 +1,4 @@
-//! Appends the spans of a fault or a warning. Used by `fault` and `warnings`.
+//! Functions that append the spans of a fault or a warning. Used by `fault` and `warnings`.
 
 ghost use Rattle.std.specs.Prelude.{◌≡◌, [], ◌∷◌, IsTrue, List, Some, None, codes, option_map};
 ghost use Rattle.logos_messages.specs.Imports.{Gains, HasLongLine, IsLongAt, YieldsOther, YieldsSpan, YieldsSpanList, bytes_tokens, label_tokens, locations_tokens};
@@ -56,7 +56,7 @@ fn push_bytes(lines: &mut JsonLines, part: Part<'_, '_>, span: Span)
     lines.push_number("byte_end", span.to.saturating_add(part.offset));
 }
 
-/// Appends the lines and the columns of the start and of the end of a span.
+/// Appends the line and the column of the start of a span, and those of its end.
 fn push_locations(lines: &mut JsonLines, reach: Reach)
     ensures { Gains (locations_tokens reach.first reach.last) lines.old lines.new }
 {

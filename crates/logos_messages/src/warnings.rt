@@ -1,5 +1,5 @@
-//! Appends a line of JSON for each of the first 50 warnings of a part of a file. Used by
-//! `logos_file_warnings`.
+//! Functions that append a line of JSON for each of the first 50 warnings of a part of a file. Used
+//! by `logos_file_warnings`.
 
 ghost use Rattle.std.specs.Prelude.{◌≡◌, ◌++◌, ℕ, List, None, false, IfOk, IfSome, OnErr, OnOk, option_map, string_bytes};
 ghost use Rattle.logos_messages.specs.Imports.{AreWarnings, Gains, HasLongLine, YieldsMessage, YieldsNoteList, YieldsNotes, PutsWarning, PutsWarnings, InReport, shown_of, warning_head, warning_texts};
@@ -13,11 +13,12 @@ use logos_report::{Part, Warning, first_of, push_warning};
 use logos_token::error::Memory;
 use std::alloc::{AllocError, Global};
 
-/// Appends a line of JSON for each of the first 50 warnings of a part of a file, in order.
+/// Appends a line of JSON for each of the first 50 warnings of a part of a file, in the order of
+/// `warnings`.
 ///
 /// A line has the members of rustc's diagnostics. The member `rendered` is the report of the
-/// warning without colors, or null if the span of the warning begins or ends in a line of more than
-/// 400 bytes.
+/// warning, without colors, or null if the span of the warning begins or ends in a line of more
+/// than 400 bytes.
 ///
 /// # Errors
 ///
@@ -128,8 +129,8 @@ fn push_text(lines: &mut JsonLines, level: &str, text: Option<&str>)
     }
 }
 
-/// Returns the report of a warning without colors, or `None` if the span of the warning begins or
-/// ends in a long line.
+/// Returns the report of a warning, without colors. Returns `None` if the span of the warning
+/// begins or ends in a line of more than 400 bytes.
 fn rendered(
     alloc: Global,
     part: Part<'_, '_>,

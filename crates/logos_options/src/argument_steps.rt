@@ -1,5 +1,5 @@
-//! Reads the arguments of a command line one after another. Used by `arguments`, `paths` and
-//! `logos_questions`.
+//! The function `next_step`, which reads one argument of a command line, and the types of its
+//! parameters and its result. Used by `arguments`, `paths` and `logos_questions`.
 
 ghost use Rattle.std.specs.Prelude.{◌≡◌, IfErr, IfOk, None, Some, option_map};
 ghost use Rattle.logos_options.specs.Imports.{status_of, option_named, begins_option, split_at_equals, step, step_value, with_assigned, with_option, with_written};
@@ -15,16 +15,17 @@ pub struct GivenOption<'w> {
     pub value: &'w str,
 }
 
-/// The meaning of an argument, or of an option together with the next argument, the option's value.
+/// The meaning of one argument, or of two consecutive arguments: an option and the option's value.
 #[derive(Clone, Copy)]
 pub enum Use<'w> {
     /// A path.
     Path(&'w str),
-    /// An option.
+    /// An option, with its value.
     Given(GivenOption<'w>),
 }
 
-/// The progress of reading a command line after some of its arguments.
+/// The progress of reading a command line: the effect of the arguments read so far on the meaning
+/// of the next argument.
 #[derive(Clone, Copy)]
 pub struct ArgumentProgress {
     /// The option whose value is the next argument, if there is such an option.
@@ -45,8 +46,10 @@ pub struct ArgumentStep<'w> {
 ///
 /// # Errors
 ///
-/// Returns `UnknownOption` for an argument that begins with `-`, has further bytes and is not an
-/// option, and `Misuse` for an option that takes no value but has one after `=`.
+/// Returns:
+///
+/// - `UnknownOption` if the argument begins with `-`, has further bytes and is not an option.
+/// - `Misuse` if the argument is an option that takes no value, but has a value after `=`.
 pub fn next_step<'w>(
     progress: ArgumentProgress,
     word: &'w str,
@@ -74,7 +77,8 @@ pub fn next_step<'w>(
     step_written(progress, word)
 }
 
-/// Returns the step that leads to `progress` and has found `one`, a path or an option.
+/// Returns the result of a step that leads to `progress` and has found the path or the option
+/// `one`.
 fn found<'w>(progress: ArgumentProgress, one: Use<'w>) -> ArgumentStep<'w>
     ensures { result ≡ record { progress = progress; found = Some one.entry } }
 {
@@ -160,7 +164,8 @@ fn step_assigned<'w>(
     }
 }
 
-/// Returns the parts of an argument before and after its first `=`, or `None` if it has no `=`.
+/// Returns the texts before and after the first `=` of an argument, or `None` if the argument has
+/// no `=`.
 fn split_at_equals(word: &str) -> Option<(&str, &str)>
     ensures { option_map (λ parts. (parts.0.now, parts.1.now)) result ≡ split_at_equals word.now }
 {
@@ -170,7 +175,7 @@ fn split_at_equals(word: &str) -> Option<(&str, &str)>
     }
 }
 
-/// Returns the failure for `word`, which is not an option. The failure has no nearest option.
+/// Returns the failure for the unknown option `word`, without a nearest option.
 fn unknown<'w>(word: &'w str) -> Failure<'w>
     ensures { status_of result ≡ 2 }
 {

@@ -1,5 +1,5 @@
-//! Reads the arguments of a command line: paths and options. Used by `logos_cli`, `logos_items` and
-//! `logos_questions`.
+//! The function `arguments_of`, which reads the paths and the options on a command line. Used by
+//! `logos_cli`, `logos_items` and `logos_questions`.
 
 ghost use Rattle.std.specs.Prelude.{◌≡◌, IfErr, IfOk, None, Some, is_some, map, option_map, set, string_bytes};
 ghost use Rattle.logos_options.specs.Imports.{arguments_of, arguments_value, nothing_given, number, option_value, role_of, settings_value, settled, status_of, use_value, with_found, with_path, with_question, with_role, with_setting, with_word, with_arguments};
@@ -39,8 +39,8 @@ impl<'w> Settings<'w> {
     ghost use Rattle.std.specs.Prelude.{◌≡◌, option_map};
     ghost use Rattle.logos_options.specs.Arguments.{is_set, setting, settings_value};
 
-    /// Returns the value of an option, or `None` if the option is not given. The value is empty for
-    /// an option that takes no value.
+    /// Returns the value of an option, or `None` if the option is not given. The value is empty if
+    /// the option takes no value.
     pub fn value(&self, option: OptionName) -> Option<&'w str>
         ensures { option_map (λ text. text.now) result ≡ setting option (settings_value self.now) }
     {
@@ -63,9 +63,13 @@ impl<'w> Settings<'w> {
 ///
 /// # Errors
 ///
-/// Returns `UnknownOption` for an option that the program does not take. Returns `Misuse` if an
-/// option lacks its value or has a value that it does not take, if a setting is given twice, if
-/// there is a second question, or if there is a third path of `logos_show`.
+/// Returns `UnknownOption` for an option that the program does not take. Returns `Misuse` if:
+///
+/// - an option lacks its value,
+/// - an option has a value that it does not take,
+/// - a setting is given twice,
+/// - there is a second question, or
+/// - there is a third path of `logos_show`.
 pub fn arguments_of(program: Program, arguments: &[String]) -> Result<Arguments<'_>, Failure<'_>>
     ensures read { IfOk result (λ parsed.
         arguments_of program (map string_bytes arguments.now) ≡ Some (arguments_value parsed)) }
@@ -225,7 +229,7 @@ fn read_path<'w>(
     }
 }
 
-/// Returns `arguments` with the option `one` added. The program takes this option.
+/// Returns `arguments` with the option `one` added. The program must take this option.
 fn read_option<'w>(
     arguments: Arguments<'w>,
     one: GivenOption<'w>,

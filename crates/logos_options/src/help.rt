@@ -1,5 +1,5 @@
-//! Writes the help of a program, with each option that the program takes. Used by `logos_cli` and
-//! `logos_show`.
+//! The function `print_help`, which writes the help of a program with each option that the program
+//! takes. Called by `logos_cli` and `logos_show`.
 
 ghost use Rattle.std.specs.Prelude.{◌≡◌, IfErr};
 ghost use Rattle.logos_options.specs.Imports.{IsNoMisuse, IsOutputFailure, status_of};
@@ -22,7 +22,7 @@ pub struct HelpText {
 /// # Errors
 ///
 /// Returns `Closed` if the reader has closed the output, and `Output` if writing fails for another
-/// reason. A part of the help may then have been written.
+/// reason. The beginning of the help may then have been written.
 pub fn print_help<'w, O: Write>(
     program: Program,
     help: HelpText,
@@ -38,7 +38,7 @@ pub fn print_help<'w, O: Write>(
     }
 }
 
-/// Writes the help of a program, and flushes the writer.
+/// Writes the help of a program to `out`, and flushes the writer.
 fn write_help<O: Write>(program: Program, help: HelpText, out: &mut O) -> io::Result<()> {
     out.write_all(help.front.as_bytes())?;
     write_rows(program, &ROWS, out)?;
@@ -46,7 +46,7 @@ fn write_help<O: Write>(program: Program, help: HelpText, out: &mut O) -> io::Re
     out.flush()
 }
 
-/// Writes the lines in a program's help for the options in `rows` that the program takes.
+/// Writes the help lines of the options in `rows` that the program takes to `out`.
 fn write_rows<O: Write>(program: Program, rows: &[OptionRow], out: &mut O) -> io::Result<()> {
     for row in rows {
         out.write_all(program.help_of(row).as_bytes())?;

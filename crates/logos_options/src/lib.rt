@@ -1,4 +1,4 @@
-//! Defines the options of `logos_cli` and `logos_show`, and reads the arguments of the two
+//! The options of `logos_cli` and `logos_show`, and functions that read the arguments of the two
 //! programs.
 
 #![tactic(auto)]

@@ -1,5 +1,5 @@
-//! Reads the style of messages from the settings `--color` and `--message-format`. Used by
-//! `logos_cli` and `logos_questions`.
+//! The function `style_given`, which reads the style of messages from the settings `--color` and
+//! `--message-format`. Called by `logos_cli` and `logos_questions`.
 
 ghost use Rattle.std.specs.Prelude.{◌≡◌, IfErr, IfOk, None, Some, option_map};
 ghost use Rattle.logos_options.specs.Imports.{color_given, format_given, settings_value, status_of, style_given};

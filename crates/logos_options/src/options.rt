@@ -31,7 +31,7 @@ pub enum OptionName {
 /// The number of options.
 pub(crate) const OPTIONS: usize = 17;
 
-/// The effect of an option.
+/// The effect of an option: it changes a setting, or requests an answer or a text.
 #[derive(Clone, Copy, Debug, PartialEq, Eq)]
 pub enum OptionRole {
     /// An option that changes a setting. Such an option is given at most once.

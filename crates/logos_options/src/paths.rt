@@ -1,5 +1,5 @@
-//! Reads the paths of a command line. Used by `arguments`, `logos_cli`, `logos_items` and
-//! `logos_show`.
+//! Functions that read the paths on a command line. Called by `arguments`, `logos_cli`,
+//! `logos_items` and `logos_show`.
 
 ghost use Rattle.std.specs.Prelude.{◌≡◌, ◌++◌, IfOk, OnOk, map, option_map, string_bytes};
 ghost use Rattle.logos_options.specs.Imports.{found_path, next_paths, next_progress, path_named, paths_of, step, texts_of, use_value};
@@ -11,7 +11,7 @@ use std::alloc::Global;
 /// The path of standard input.
 pub const STANDARD_INPUT: &str = "/dev/stdin";
 
-/// Returns all paths of a valid command line, in order.
+/// Returns all paths of a valid command line, in the order of the arguments.
 ///
 /// # Errors
 ///
@@ -31,7 +31,7 @@ pub fn paths_of<'w>(alloc: Global, arguments: &'w [String]) -> Result<Vec<&'w st
     Ok(paths)
 }
 
-/// Appends the path that the argument `word` names to `paths` if the argument is a path. Returns
+/// Appends to `paths` the path that the argument `word` names, if the argument is a path. Returns
 /// the progress after the argument, or `progress` if the argument is invalid.
 fn push_path<'w>(
     paths: &mut Vec<&'w str>,

@@ -8,9 +8,9 @@ use crate::options::{OptionName, OptionRow, ROWS};
 /// A program that takes options.
 #[derive(Clone, Copy, Debug, PartialEq, Eq)]
 pub enum Program {
-    /// `logos_cli`.
+    /// The program `logos_cli`.
     Cli,
-    /// `logos_show`.
+    /// The program `logos_show`.
     Show,
 }
 

@@ -1,5 +1,5 @@
-//! Writes the version of a program, and the line that names the program's commit. Used by
-//! `logos_cli` and `logos_show`.
+//! The function `print_version`, which writes the version of a program, and the line that names the
+//! program's commit. Called by `logos_cli` and `logos_show`.
 
 ghost use Rattle.std.specs.Prelude.{◌≡◌, ◌-◌, IfErr, drop, length};
 ghost use Rattle.logos_options.specs.Imports.{IsNoMisuse, commit_line, is_commit_line, is_hex_digit, list_all, status_of};
@@ -14,14 +14,18 @@ const PROGRAM: &str = "/proc/self/exe";
 /// The length in bytes of the line that names a commit: `commit: `, forty digits and a line end.
 const LENGTH: usize = 49;
 
-/// Writes the text `version` to `out`, and then the line that names the commit of the running
-/// program if the program's file ends with such a line. Flushes the writer.
+/// Writes the text `version` to `out`. If the file of the running program ends with a line that
+/// names the program's commit, then writes this line. Flushes the writer.
 ///
 /// # Errors
 ///
-/// Returns `Closed` if the reader has closed the output, and `Output` if writing fails for another
-/// reason. A part of the text may then have been written. Returns `Memory` if memory runs out.
-/// Nothing has then been written.
+/// Returns:
+///
+/// - `Closed` if the reader has closed the output. The beginning of the text may then have been
+///   written.
+/// - `Output` if writing fails for another reason. The beginning of the text may then have been
+///   written.
+/// - `Memory` if memory runs out. Nothing has then been written.
 pub fn print_version<'w, F: ComparableFiles, O: Write>(
     version: &str,
     files: &F,
@@ -63,7 +67,7 @@ fn last_bytes(program: &[u8]) -> &[u8]
     }
 }
 
-/// Returns whether `line` names a commit: whether it consists of `commit: `, forty lower-case
+/// Returns whether `line` names a commit. Such a line consists of `commit: `, forty lower-case
 /// hexadecimal digits and LF.
 fn is_commit_line(line: &[u8]) -> bool
     ensures { result ≡ is_commit_line line.now }

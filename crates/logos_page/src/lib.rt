@@ -1,5 +1,5 @@
-//! A text with optional colors, and the characters that are safe to show on a terminal. Used for
-//! reports and answers.
+//! Defines texts with optional colors, and the form in which characters are shown on a terminal.
+//! Used for reports and answers.
 
 #![tactic(auto)]
 

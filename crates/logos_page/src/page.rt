@@ -1,5 +1,5 @@
-//! Defines pages: texts with optional colors, to which parts are appended. Used by all crates that
-//! append to reports or answers.
+//! Defines pages: texts with optional colors, to which other texts are appended. Used by all crates
+//! that append to reports or answers.
 
 ghost use Rattle.std.specs.Prelude.{◌≡◌, ◌↔◌, [], true, IfOk, IsOk, IsTrue, decimal, encode_utf8, length, string_bytes};
 ghost use Rattle.logos_page.specs.Views.{shown_char, shown_text, Gains, begun, ended, painted, style_text, times};
@@ -8,7 +8,7 @@ use crate::shown::occur_in;
 use std::alloc::{AllocError, Global};
 use std::marker::Model;
 
-/// The style of a part of a text in a page with colors.
+/// The style of a text within a page with colors.
 #[derive(Clone, Copy, Debug, PartialEq, Eq)]
 pub enum Style {
     /// An error: bold and red.
@@ -21,8 +21,8 @@ pub enum Style {
     Strong,
 }
 
-/// A text with optional colors, to which parts are appended. A page records whether memory ran out,
-/// so only `finish` can fail.
+/// A text with optional colors, to which other texts are appended. A page records whether memory
+/// ran out, so only `finish` can fail.
 #[derive(Drop)]
 pub struct Page {
     text: String,
@@ -85,9 +85,14 @@ impl Page {
         }
     }
 
-    /// Appends a text in a form that cannot control a terminal: ASCII control characters as their
-    /// pictures, tabs as four spaces, and U+FFFD for other characters that control a terminal,
-    /// change the order of a text or are invisible.
+    /// Appends a text in a form that cannot control a terminal.
+    ///
+    /// These characters are replaced:
+    ///
+    /// - a tab by four spaces,
+    /// - any other ASCII control character by its symbol from Unicode's block Control Pictures,
+    /// - any other character that controls a terminal, changes the order of a text or is invisible,
+    ///   by U+FFFD.
     pub fn push_shown(&mut self, text: &str)
         ensures { Gains (shown_text text.now) self.old self.new }
     {
@@ -116,7 +121,7 @@ impl Page {
         }
     }
 
-    /// Begins a part in a style. Appends the escape sequence of the style if the page has colors.
+    /// Begins a text in a style. Appends the escape sequence of the style if the page has colors.
     pub fn begin(&mut self, style: Style)
         ensures { Gains (begun self.old.is_colored style) self.old self.new }
     {
@@ -125,7 +130,7 @@ impl Page {
         }
     }
 
-    /// Ends a part that has a style. Appends the escape sequence that ends a style if the page has
+    /// Ends a text in a style. Appends the escape sequence that ends a style if the page has
     /// colors.
     pub fn end(&mut self)
         ensures { Gains (ended self.old.is_colored) self.old self.new }
@@ -148,7 +153,7 @@ impl Page {
     ///
     /// # Errors
     ///
-    /// Returns `AllocError` if memory ran out in any call.
+    /// Returns `AllocError` if memory ran out in an earlier call on the page.
     pub fn finish(self) -> Result<String, AllocError>
         ensures whole { IsOk result ↔ IsTrue self.is_whole }
         ensures text { IfOk result (λ text. string_bytes text ≡ self.text) }
@@ -161,7 +166,7 @@ impl Page {
     }
 }
 
-/// Returns the escape sequence that begins a part in the style `style` on a terminal.
+/// Returns the escape sequence that begins a text in the style `style` on a terminal.
 fn style_text(style: Style) -> &'static str
     ensures { result.now ≡ style_text style }
 {

@@ -10,9 +10,13 @@ use unicode_width::UnicodeWidthChar;
 /// The width of a tab, in columns.
 const TAB: usize = 4;
 
-/// Returns the character that represents `character`, a character other than a tab, on a terminal:
-/// the picture of an ASCII control character, U+FFFD for any other unsafe character, and otherwise
-/// `character` itself.
+/// Returns the character that represents `character` on a terminal. `character` must not be a tab.
+///
+/// The result is:
+///
+/// - for an ASCII control character, its symbol from Unicode's block Control Pictures,
+/// - for any other unsafe character, U+FFFD,
+/// - for a safe character, `character` itself.
 pub fn occur_in(character: char) -> char
     ensures { result ≡ occur_in character }
 {
@@ -28,8 +32,8 @@ pub fn occur_in(character: char) -> char
     }
 }
 
-/// Returns the picture of the ASCII control character with the code point `code`, which is less
-/// than 32.
+/// Returns the symbol of an ASCII control character from Unicode's block Control Pictures. `code`
+/// is the code point of the control character, and must be less than 32.
 fn picture(code: u32) -> char
     requires { code < 32 }
     ensures { result ≡ 0x2400 + code }

@@ -1,4 +1,5 @@
-//! Analyzes sources. `generate` of `logos_codegen` calls `analyze` first.
+//! `analyze` finds the leaves, the options and the faults of a source. `generate` of
+//! `logos_codegen` calls `analyze` first.
 
 ghost use Rattle.std.specs.Prelude.{◌≡◌, ◌<◌, ◌≤◌, ◌∷◌, ◌++◌, [], length, map, option_map, IfOk, IfErr, IsErrAnd, OnOk};
 ghost use Rattle.logos_parser.specs.Views.{source_limit, Fault, run_span, stream_tokens, tokens_of, enum_value, generics_of, generics, parser_view, leaf_view, utf8_mode, IsShallow, too_long, EndsReading, EndsTokens, type_faults, HasItsType, IsEnumAnalysis, IsTokenAnalysis, IsAnalysis, ReadsEnum, no_options, type_tree, utf8_faults, Refuses, analysis_view};
@@ -34,9 +35,9 @@ pub struct Analysis<'s> {
     pub parser: Parser<'s>,
 }
 
-/// Reports each leaf that can match invalid UTF-8 if inputs are UTF-8, and each type parameter
-/// without a type. Returns the generic arguments that follow the enum's name, or `None` if there
-/// are none.
+/// Reports each leaf that can match invalid UTF-8, but only if inputs are UTF-8. Also reports each
+/// type parameter without a type. Returns the generic arguments that follow the enum's name, or
+/// `None` if there are none.
 fn check_leaves<'s>(
     leaves: &[Leaf<'s>],
     parser: &mut Parser<'s>,
@@ -119,15 +120,17 @@ fn analyze_tokens<'s>(alloc: Global, stream: &TokenStream<'s>) -> Result<Analysi
 }
 
 /// Analyzes a source: reads its enum, and finds its leaves, its options, and all faults except the
-/// faults of the graph. These faults do not stop the analysis; the parser in the result contains
-/// them.
+/// faults of the graph. Faults in the enum do not stop the analysis; the parser in the result
+/// contains them.
 ///
 /// # Errors
 ///
-/// Returns `Errors` with the one fault that ends the reading: `LimitSource` if the source is longer
-/// than 16 MiB; `Lexical` if it cannot be split into tokens; `LimitTokenNesting` if its groups are
-/// nested too deeply; `NotAnEnum`, `Grammar`, `TypeUnsupported` or `LimitTypeNesting` if its tokens
-/// are not an enum. Returns `Memory` if memory runs out.
+/// Returns `Memory` if memory runs out, and `Errors` with the one fault that ends the reading:
+///
+/// - `LimitSource` if the source is longer than 16 MiB
+/// - `Lexical` if the source cannot be split into tokens
+/// - `LimitTokenNesting` if groups of tokens are nested too deeply
+/// - `NotAnEnum`, `Grammar`, `TypeUnsupported` or `LimitTypeNesting` if the tokens are not an enum
 pub fn analyze<'s>(alloc: Global, src: &'s str) -> Result<Analysis<'s>, Refusal>
     ensures ok { IfOk result (λ analysis. IsAnalysis src.now (analysis_view analysis)) }
     ensures short { IfOk result (λ analysis. length src.now ≤ source_limit) }

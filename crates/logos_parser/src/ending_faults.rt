@@ -1,5 +1,5 @@
-//! The faults that end the reading of a source. `analyze`, `strip_attributes` and `enums_in` report
-//! them.
+//! Functions that return the refusal of a source with a fault that ends the reading of the source.
+//! Called by `analyze`, `strip_attributes` and `enums_in`.
 
 ghost use Rattle.std.specs.Prelude.{◌≡◌, ◌∷◌, []};
 ghost use Rattle.logos_parser.specs.Views.{Fault, IsRefusal, fault, only, EndsReading, lexical_fault, lexical_text, IsMisread, too_long, Refuses};
@@ -86,7 +86,7 @@ pub fn misread(alloc: Global, error: ReadError) -> Refusal
     }
 }
 
-/// Returns the refusal of `src`, a source that cannot be read into tokens: one fault for `error`,
+/// Returns the refusal of `src`, a source that cannot be split into tokens: one fault for `error`,
 /// or `Memory` if memory ran out.
 pub fn unreadable(alloc: Global, src: &str, error: TokenError) -> Refusal
     requires { IsRefusal src.now error }

@@ -1,4 +1,4 @@
-//! Builds the type of an enum. `analysis` calls `enum_type` last.
+//! `enum_type` builds the type of an enum. `analysis` calls `enum_type` last.
 
 ghost use Rattle.std.specs.Prelude.{◌≡◌, ◌∷◌, ◌++◌, [], IfOk, OnOk, map, option_map};
 ghost use Rattle.logos_parser.specs.Imports.{tree_of, type_tree, generics_of, argument, arguments, lifetime_argument, bracketed, enum_type};

@@ -1,5 +1,5 @@
-//! Re-exports enums as they are written: attributes as runs of tokens, generic parameters, and
-//! variants with their fields and types.
+//! Re-exports the types of enums as written in a source: attributes as runs of tokens, generic
+//! parameters, and variants with their fields and types.
 
 pub use logos_enum::{
     Attribute, Field, Fields, ItemEnum, Parameter, ParameterKind, ReadError, Variant, read_enum,

@@ -1,6 +1,6 @@
-//! Analyzes the enum of a source: finds its leaves, its options, and all its faults except the
-//! faults of its graph. Re-exports the modules of the crates below. `logos_codegen` calls
-//! `analyze`.
+//! `analyze` finds the leaves and the options of a source's enum, and all faults of the enum except
+//! the faults of the graph. `logos_codegen` calls `analyze`. Re-exports the modules of the crates
+//! below.
 
 #![tactic(auto)]
 

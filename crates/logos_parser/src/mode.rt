@@ -1,5 +1,5 @@
-//! Reports leaves that can match invalid UTF-8. `analysis` calls `report_not_utf8` for all leaves
-//! at once.
+//! `report_not_utf8` reports leaves that can match invalid UTF-8. `analysis` calls
+//! `report_not_utf8` for all leaves at once.
 
 ghost use Rattle.std.specs.Prelude.{◌≡◌, ◌++◌, map, IfOk, OnOk, string_bytes};
 ghost use Rattle.logos_parser.specs.Imports.{AddsFault, leaf_view, utf8_text, utf8_fault, leaf_faults, utf8_faults};
@@ -38,8 +38,8 @@ fn report_if_not_utf8(leaf: &Leaf<'_>, errors: &mut Errors) -> Result<(), Memory
     report_utf8_fault(leaf, errors)
 }
 
-/// Reports each leaf whose pattern can match invalid UTF-8 if `utf8_mode` is `true`, and nothing
-/// otherwise.
+/// Reports each leaf whose pattern can match invalid UTF-8. Reports nothing if `utf8_mode` is
+/// `false`.
 pub(crate) fn report_not_utf8(
     utf8_mode: bool,
     leaves: &[Leaf<'_>],

@@ -1,4 +1,5 @@
-//! The refusal of a source. Each function that reads a whole source returns a refusal as its error.
+//! Defines the refusal of a source. Each function that reads a whole source returns a refusal as
+//! its error.
 
 ghost use Rattle.std.specs.Prelude.{◌≡◌};
 ghost use Rattle.logos_parser.specs.Views.{Memory as OutOfMemory};

@@ -1,4 +1,4 @@
-//! Defines the leaves of a lexer. A leaf is a pattern with its priority, its kind and its callback.
+//! The leaves of a lexer. A leaf is a pattern with its priority, its kind and its callback.
 //! `logos_leaf` makes leaves, and graphs and codes store them.
 
 ghost use Rattle.std.specs.Prelude.{◌≡◌, Some, false};
@@ -24,7 +24,7 @@ pub enum VariantKind<'s> {
     Skip,
 }
 
-/// A function that the lexer calls for each match.
+/// A user's function that the lexer calls for each match of a leaf, or for each error.
 #[derive(Drop)]
 pub enum Callback<'s> {
     /// The tokens that name a function, such as a path.
@@ -119,13 +119,13 @@ impl Clone for InlineCallback<'_> {
 /// The options of a leaf's definition other than its priority and its callback.
 #[derive(Clone, Copy, Debug, PartialEq, Eq)]
 pub struct LeafOptions {
-    /// Whether letters match in either case, as set by `ignore(case)`.
+    /// `true` if letters match in either case, as set by `ignore(case)`.
     pub ignores_case: bool,
-    /// Whether a greedy repetition of a dot is allowed, as set by `allow_greedy = true`.
+    /// `true` if a greedy repetition of a dot is allowed, as set by `allow_greedy = true`.
     pub allows_greedy: bool,
 }
 
-/// A pattern with its priority, and the use of its matches.
+/// A pattern with its priority, its kind, its callback and its options.
 #[derive(Drop)]
 pub struct Leaf<'s> {
     /// The pattern that the leaf matches.
@@ -143,8 +143,8 @@ pub struct Leaf<'s> {
 }
 
 impl<'s> Leaf<'s> {
-    /// Returns a leaf for `pattern`, whose literal is at `span`. The leaf skips its matches, and
-    /// has priority 0, no callback and no options.
+    /// Returns a leaf for `pattern`. The literal of the pattern is at `span`. The leaf skips its
+    /// matches, and has priority 0, no callback and no options.
     pub fn new(span: Span, pattern: Pattern<'s>) -> Leaf<'s>
         ensures { result ≡ record {
           pattern = pattern.entry;

@@ -1,5 +1,5 @@
-//! Defines the patterns and the leaves of a lexer. `logos_leaf` makes both from definitions, and
-//! the later stages read both.
+//! The patterns and the leaves of a lexer. `logos_leaf` makes patterns and leaves from definitions,
+//! and the later stages read them.
 
 #![tactic(auto)]
 

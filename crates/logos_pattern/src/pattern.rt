@@ -1,5 +1,5 @@
-//! Reads patterns from the texts of literals. `logos_leaf` makes a pattern for each leaf and for
-//! each subpattern.
+//! The type `Pattern`, whose functions read patterns from the texts of literals. `logos_leaf` makes
+//! a pattern for each leaf and for each subpattern.
 
 ghost use Rattle.std.specs.Prelude.{◌≡◌, ◌≤◌, ◌++◌, ℕ, chars, IfOk, IfErr, IsTrue, Some};
 ghost use Rattle.logos_pattern.specs.Views.{tree_of, literal_tree, value, fitted, is_text, has_greedy_dot, IsTooDeep, IsSpelled, IsFound, Refuses, first_flags, pattern_tree, source_of, is_token, pattern_text, token_of, held_bytes, literal_value};
@@ -21,7 +21,7 @@ use logos_token::error::Memory;
 use std::alloc::{AllocError, Global};
 use std::fmt;
 
-/// The greatest depth to which groups, brackets and operators can be nested in a pattern.
+/// The maximum depth to which groups, brackets and operators can be nested in a pattern.
 pub const MAX_NESTING: usize = 250;
 
 /// A pattern, consisting of a tree and the literal from which the tree was read.
@@ -42,9 +42,12 @@ impl<'s> Pattern<'s> {
     ///
     /// # Errors
     ///
-    /// Returns `Syntax` if `regex` violates the grammar. The error contains the kind of the fault
-    /// and its byte offset in `regex`. Returns `LimitPatternNesting` if groups, brackets and
-    /// operators are nested more than 250 deep. Returns `Memory` if memory runs out.
+    /// Returns:
+    ///
+    /// - `Syntax` if `regex` violates the grammar. The error contains the kind of the fault and the
+    ///   byte offset of the fault in `regex`.
+    /// - `LimitPatternNesting` if groups, brackets and operators are nested more than 250 deep.
+    /// - `Memory` if memory runs out.
     pub fn compile(
         alloc: Global,
         is_literal: bool,
@@ -129,7 +132,7 @@ impl<'s> Pattern<'s> {
         measures::check_for_greedy_all(&self.hir)
     }
 
-    /// Returns whether each literal of the tree is valid UTF-8, and each class of bytes contains
+    /// Returns whether each literal of the tree is valid UTF-8 and each class of bytes contains
     /// only ASCII bytes.
     pub fn is_utf8(&self) -> bool
         ensures { result ≡ is_text (pattern_tree self.now) }

@@ -1,5 +1,5 @@
-//! Reads numbers, and repetition operators with counts, from the text of a pattern. The readers of
-//! tokens call this module after an atom and in escapes.
+//! Functions that read numbers, and repetition operators with counts, from the text of a pattern.
+//! Called by the readers of tokens.
 
 ghost use Rattle.std.specs.Prelude.{◌≡◌, ◌==◌, option_map, position};
 ghost use Rattle.logos_pattern_tokens.specs.Views.{Yields, token_view, is_digit, hex_digit, hex_from, scalar_of, cut_at, number_from, fits, number_at, lazy_at, count_end, order_at, most_at, bounds_at, count_at};
@@ -94,8 +94,11 @@ fn number_from(start: u32, text: &[char]) -> Option<(u32, &[char])>
 ///
 /// # Errors
 ///
-/// Returns `Unclosed` if the text is empty, `CountSyntax` if it does not begin with a digit, and
-/// `CountTooLarge` if the number is 2^32 or more.
+/// Returns:
+///
+/// - `Unclosed` if the text is empty
+/// - `CountSyntax` if the text does not begin with a digit
+/// - `CountTooLarge` if the number is 2^32 or more
 #[tactic(auto, unfolding(crate::specs::Token::number_at))]
 fn number_at(text: &[char]) -> Result<(u32, &[char]), Fault>
     ensures { Yields (λ x. (x.0, x.1.now)) result (number_at text.now) }
@@ -141,7 +144,8 @@ pub fn lazy_at<'t>(least: u32, most: Option<u32>, text: &'t [char]) -> (Token<'t
 ///
 /// # Errors
 ///
-/// Returns `Unclosed` if the text is empty, and `CountSyntax` if it begins with another character.
+/// Returns `Unclosed` if the text is empty, and `CountSyntax` if the text begins with a character
+/// other than `}`.
 #[tactic(auto, unfolding(crate::specs::Token::count_end))]
 fn count_end<'t>(
     least: u32,
@@ -161,8 +165,11 @@ fn count_end<'t>(
 ///
 /// # Errors
 ///
-/// Returns `Unclosed` if the text is empty, `CountOrder` if the second count is less than `least`,
-/// and the errors of `number_at` and `count_end`.
+/// Returns:
+///
+/// - `Unclosed` if the text is empty
+/// - `CountOrder` if the second count is less than `least`
+/// - the errors of `number_at` and `count_end`
 #[tactic(auto, unfolding(crate::specs::Token::most_at, crate::specs::Token::order_at))]
 fn most_at(least: u32, text: &[char]) -> Result<(Token<'_>, &[char]), Fault>
     ensures { Yields (λ x. (token_view x.0, x.1.now)) result (most_at least text.now) }
@@ -201,9 +208,12 @@ fn bounds_at(least: u32, text: &[char]) -> Result<(Token<'_>, &[char]), Fault>
 ///
 /// # Errors
 ///
-/// Returns `Unclosed` if the text ends before `}`, `CountSyntax` if no counts follow,
-/// `CountTooLarge` if a count is 2^32 or more, and `CountOrder` if the second count is less than
-/// the first.
+/// Returns:
+///
+/// - `Unclosed` if the text ends before `}`
+/// - `CountSyntax` if no counts follow
+/// - `CountTooLarge` if a count is 2^32 or more
+/// - `CountOrder` if the second count is less than the first
 #[tactic(auto, unfolding(crate::specs::Token::count_at))]
 pub fn count_at(text: &[char]) -> Result<(Token<'_>, &[char]), Fault>
     ensures { Yields (λ x. (token_view x.0, x.1.now)) result (count_at text.now) }

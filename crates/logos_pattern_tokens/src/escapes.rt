@@ -1,4 +1,4 @@
-//! Reads the text after a backslash. Both token readers call `escape_at` at a backslash.
+//! `escape_at` reads the text after a backslash. Called by both readers of tokens.
 
 ghost use Rattle.std.specs.Prelude.{◌≡◌, MatchResult};
 ghost use Rattle.logos_pattern_tokens.specs.Views.{Yields, is_among, is_escapable, single_of, begins, is_form, plain_property, property_of, property_at, braces_at, fixed_at, byte_at, hex_at, boundary_at, single_at, escape_at};
@@ -65,8 +65,11 @@ fn is_form(name: &[char]) -> bool
 ///
 /// # Errors
 ///
-/// Returns `PropertyForm` if the name has a value or is negated, `UnknownProperty` if no property
-/// has the name, and `Memory` if memory runs out.
+/// Returns:
+///
+/// - `PropertyForm` if the name has a value or is negated
+/// - `UnknownProperty` if no property has the name
+/// - `Memory` if memory runs out
 #[tactic(auto, unfolding(crate::specs::Escapes::plain_property))]
 fn plain_property(alloc: Global, name: &[char]) -> Result<Set, Fault>
     ensures { Yields (λ set. set) result (plain_property name.now) }
@@ -103,8 +106,11 @@ fn property_of<'t>(
 ///
 /// # Errors
 ///
-/// Returns `UnknownProperty` if the text is empty or its one character names no property,
-/// `Unclosed` if the brace is not closed, and otherwise the errors of `plain_property`.
+/// Returns:
+///
+/// - `UnknownProperty` if the text is empty, or if its one character names no property
+/// - `Unclosed` if the brace is not closed
+/// - otherwise the errors of `plain_property`
 #[tactic(auto, unfolding(crate::specs::Escapes::property_at))]
 fn property_at(alloc: Global, negated: bool, text: &[char]) -> Result<(Atom, &[char]), Fault>
     ensures { Yields (λ x. (x.0, x.1.now)) result (property_at negated text.now) }
@@ -130,9 +136,11 @@ fn property_at(alloc: Global, negated: bool, text: &[char]) -> Result<(Atom, &[c
 ///
 /// # Errors
 ///
-/// Returns `Unclosed` if the text has no `}` and consists of digits only, and `HexSyntax` if there
-/// are no digits or other characters are among them. Returns `HexNotScalar` if the number is not a
-/// Unicode scalar value.
+/// Returns:
+///
+/// - `Unclosed` if the text has no `}` and consists of hexadecimal digits only
+/// - `HexSyntax` if there are no digits before `}`, or if other characters are among the digits
+/// - `HexNotScalar` if the number is not a Unicode scalar value
 #[tactic(auto, unfolding(crate::specs::Escapes::braces_at))]
 fn braces_at(text: &[char]) -> Result<(Atom, &[char]), Fault>
     ensures { Yields (λ x. (x.0, x.1.now)) result (braces_at text.now) }
@@ -162,8 +170,8 @@ fn digits_fault(digits: &[char]) -> Kind {
 ///
 /// # Errors
 ///
-/// Returns `HexSyntax` if there are fewer digits, and `HexNotScalar` if the number is not a Unicode
-/// scalar value.
+/// Returns `HexSyntax` if the text does not begin with `width` hexadecimal digits, and
+/// `HexNotScalar` if the number is not a Unicode scalar value.
 #[tactic(auto, unfolding(crate::specs::Escapes::fixed_at))]
 fn fixed_at(width: usize, text: &[char]) -> Result<(Atom, &[char]), Fault>
     ensures { Yields (λ x. (x.0, x.1.now)) result (fixed_at width text.now) }
@@ -181,7 +189,7 @@ fn fixed_at(width: usize, text: &[char]) -> Result<(Atom, &[char]), Fault>
 ///
 /// # Errors
 ///
-/// Returns `HexSyntax` if there are fewer digits.
+/// Returns `HexSyntax` if the text does not begin with two hexadecimal digits.
 #[tactic(auto, unfolding(crate::specs::Escapes::byte_at))]
 fn byte_at(text: &[char]) -> Result<(Atom, &[char]), Fault>
     ensures { Yields (λ x. (x.0, x.1.now)) result (byte_at text.now) }
@@ -261,8 +269,11 @@ fn single_at(c: char, rest: &[char]) -> Result<(Atom, &[char]), Fault>
 ///
 /// # Errors
 ///
-/// Returns `EscapeUnknown` if the text is empty or begins with a character that cannot be escaped,
-/// the fault of the escape if it is malformed, and `Memory` if memory runs out.
+/// Returns:
+///
+/// - `EscapeUnknown` if the text is empty or begins with a character that cannot be escaped
+/// - the fault of the escape if the escape is malformed
+/// - `Memory` if memory runs out
 #[tactic(auto, unfolding(crate::specs::Escapes::escape_at))]
 pub fn escape_at(alloc: Global, text: &[char]) -> Result<(Atom, &[char]), Fault>
     ensures { Yields (λ x. (x.0, x.1.now)) result (escape_at text.now) }

@@ -1,5 +1,5 @@
-//! The tokens of a pattern's text, and the readers that read one token from the front of the text.
-//! `logos_syntax` calls the readers.
+//! Contains the tokens of a pattern's text, and the readers that read one token from the front of
+//! the text. `logos_syntax` calls the readers.
 
 #![tactic(auto)]
 

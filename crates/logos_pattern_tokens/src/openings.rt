@@ -1,4 +1,5 @@
-//! Reads the text after an opening parenthesis. The reader of tokens calls `group_at` at each `(`.
+//! `group_at` reads the text after an opening parenthesis. The reader of tokens calls `group_at` at
+//! each `(`.
 
 ghost use Rattle.std.specs.Prelude.{◌≡◌};
 ghost use Rattle.logos_pattern_tokens.specs.Views.{no_change, set_once, with_letter, Yields, token_view, sets, opens, plain, is_name_start, is_name_part, are_name_parts, is_name, name_at, python_at, dash, next_letter, setting_end, letters_from, no_letters, option_at, group_at};
@@ -74,8 +75,11 @@ fn name_at(text: &[char]) -> Result<(Token<'_>, &[char]), Fault>
 ///
 /// # Errors
 ///
-/// Returns `Unclosed` if the text is empty, `FlagSyntax` if it does not begin with `<`, and
-/// otherwise the errors of `name_at`.
+/// Returns:
+///
+/// - `Unclosed` if the text is empty
+/// - `FlagSyntax` if the text does not begin with `<`
+/// - otherwise the errors of `name_at`
 #[tactic(auto, unfolding(crate::specs::Openings::python_at))]
 fn python_at(text: &[char]) -> Result<(Token<'_>, &[char]), Fault>
     ensures { Yields (λ x. (token_view x.0, x.1.now)) result (python_at text.now) }

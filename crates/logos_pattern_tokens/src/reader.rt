@@ -1,5 +1,5 @@
-//! Reads one token from the front of a text, outside brackets. `logos_syntax` calls `token_at` once
-//! for each token.
+//! `token_at` reads one token from the front of a text outside brackets. `logos_syntax` calls
+//! `token_at` once for each token.
 
 ghost use Rattle.std.specs.Prelude.{◌≡◌};
 ghost use Rattle.logos_pattern_tokens.specs.Views.{Yields, token_view, escape_token_at, token_at};
@@ -30,8 +30,11 @@ fn escape_token_at(alloc: Global, text: &[char]) -> Result<(Token<'_>, &[char]),
 ///
 /// # Errors
 ///
-/// Returns `Unclosed` if the text is empty or begins with `[`, the fault of the token if it is
-/// malformed, and `Memory` if memory runs out.
+/// Returns:
+///
+/// - `Unclosed` if the text is empty or begins with `[`
+/// - the fault of the token if the token is malformed
+/// - `Memory` if memory runs out
 #[tactic(auto, unfolding(crate::specs::Reader::token_at))]
 pub fn token_at(alloc: Global, text: &[char]) -> Result<(Token<'_>, &[char]), Fault>
     ensures { Yields (λ x. (token_view x.0, x.1.now)) result (token_at text.now) }

@@ -1,4 +1,4 @@
-//! The tokens of a pattern outside brackets. `reader` returns them.
+//! Defines the tokens of a pattern outside brackets. `reader` returns these tokens.
 
 use logos_hir::property::PerlKind;
 use unicode::sets::Set;
@@ -47,9 +47,10 @@ pub struct Operator {
 pub enum Atom {
     /// A character, or an escape of a character other than `\xNN`.
     Character(char),
-    /// `\xNN`: a byte if the pattern matches bytes, and the character with this number otherwise.
+    /// `\xNN`: a byte if the pattern matches bytes, and the character with the code point `NN`
+    /// otherwise.
     Byte(u8),
-    /// `.`: any character or byte except a line end, or any character or byte with the flag `s`.
+    /// `.`: any character or byte except a line end or, with the flag `s`, any character or byte.
     Dot,
     /// `^`: the start of the input or, with the flag `m`, of a line.
     Caret,

@@ -1,5 +1,5 @@
-//! Classes of characters, read byte by byte. `preparation` builds their tables, and
-//! `positions::step` looks up positions in the tables.
+//! Reads classes of characters byte by byte, according to tables. `preparation` builds the tables,
+//! and `positions::step` looks up rows in them.
 
 pub(crate) mod builder;
 pub(crate) mod ranges;

@@ -1,5 +1,5 @@
-//! Steps on trees, from the positions that read one byte to the positions that read the next byte.
-//! `logos_automaton` builds its states with these steps.
+//! Makes steps on trees, from the positions that read one byte to the positions that read the next
+//! byte. `logos_automaton` builds its states with these steps.
 
 #![tactic(auto)]
 

@@ -1,6 +1,6 @@
-//! Trees prepared for the automaton. `prepare` makes these trees, and steps read them. A tree is
-//! entered at a point where a match of the tree begins, and can be left at a point where a match of
-//! the tree ends.
+//! Contains the trees that are prepared for the automaton. `prepare` makes these trees, and
+//! `positions` makes steps on them. A tree is entered at a point where a match of the tree begins,
+//! and can be left at a point where a match of the tree ends.
 
 ghost use Rattle.std.specs.Prelude.{◌≡◌, ◌+◌, ◌*◌, ◌^◌, ◌<◌, ◌≤◌, ◌-◌, IsTrue, false};
 ghost use Rattle.logos_positions.specs.Views.{count_of, core_of, is_measured};
@@ -9,15 +9,15 @@ ghost use Rattle.logos_positions.specs.Core as core;
 use crate::characters::reader::CharacterTable;
 use logos_hir::hir::{Look, Range};
 
-/// A prepared tree. Parts and branches are combined in pairs, and their numbers of positions are
-/// stored.
+/// A prepared tree. Each concatenation and each alternation combines two trees, and stores the
+/// number of positions of both trees.
 #[derive(Drop)]
 pub enum Node {
     /// A tree that matches nothing.
     Void,
     /// A tree that matches the empty string.
     Empty,
-    /// A run of bytes, matched in order.
+    /// Bytes that are matched one after another.
     Literal(Vec<u8>),
     /// One byte of a class, with the ranges of the class.
     Bytes(Vec<Range>),
@@ -25,7 +25,7 @@ pub enum Node {
     Characters(CharacterTable),
     /// A look-around assertion: a condition on a point of the input.
     Look(Look),
-    /// One tree after the other.
+    /// One tree, followed by another.
     Cat {
         /// The number of positions of both trees.
         width: usize,
@@ -103,8 +103,8 @@ impl TreeSpot {
         }
     }
 
-    /// Returns the spot of the tree after this one. `width` is the number of positions of this
-    /// tree, and `entered` is `true` if the tree after it is entered.
+    /// Returns the spot of the next tree. `width` is the number of positions of this tree, and
+    /// `entered` is `true` if the next tree is entered.
     pub fn after(self, width: usize, entered: bool) -> TreeSpot
         requires { self.base + width < 2 ^ 64 }
         ensures base { result.base ≡ self.base + width }
@@ -146,8 +146,8 @@ impl Copies {
         }
     }
 
-    /// Returns the copies from the copy with the number `number` on. `entered` is `true` if the
-    /// first of the returned copies is entered.
+    /// Returns the copies from the index `number` on. `entered` is `true` if the first of the
+    /// returned copies is entered.
     pub fn from(self, number: usize, entered: bool) -> Copies
         requires fits { self.base + self.each * number < 2 ^ 64 }
         requires within { number ≤ self.count }
@@ -164,7 +164,7 @@ impl Copies {
         }
     }
 
-    /// Returns the spot of the copy with the number `number`. `entered` is `true` if the copy is
+    /// Returns the spot of the copy at the index `number`. `entered` is `true` if the copy is
     /// entered.
     pub fn at(self, number: usize, entered: bool) -> TreeSpot
         requires { self.base + self.each * number < 2 ^ 64 }

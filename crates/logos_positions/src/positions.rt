@@ -1,5 +1,5 @@
-//! Steps from a set of positions to the positions that read the next byte. `logos_automaton` takes
-//! these steps for each state.
+//! Makes steps from a set of positions to the positions that read the next byte. `logos_automaton`
+//! makes these steps for each state.
 
 pub(crate) mod exits;
 pub mod look;

@@ -78,7 +78,7 @@ fn apart(alloc: Global, in_order: bool, first: Node, second: Node) -> Result<Nod
 }
 
 /// Returns the concatenation of `first` and `second` if `in_order` is `true`, and their alternation
-/// otherwise. The alternation of two classes of bytes is one class.
+/// otherwise. Two classes of bytes are united into one class for their alternation.
 ///
 /// # Errors
 ///
@@ -100,8 +100,8 @@ fn pair(alloc: Global, in_order: bool, first: Node, second: Node) -> Result<Node
     }
 }
 
-/// Returns the concatenation of no trees, which matches the empty string, if `in_order` is `true`.
-/// Otherwise, returns the alternation of no trees, which matches nothing.
+/// Returns `Node::Empty`, the concatenation of no trees, if `in_order` is `true`. Otherwise,
+/// returns `Node::Void`, the alternation of no trees, which matches nothing.
 fn none_of(in_order: bool) -> Node
     ensures occurs { core_of result ≡ of_none in_order }
     ensures measured { IsTrue (is_measured result) }
@@ -125,8 +125,8 @@ fn sole(in_order: bool, mut nodes: Vec<Node>) -> Node
     node
 }
 
-/// Combines trees in pairs, with about half of the trees on each side. Returns the concatenation of
-/// all trees if `in_order` is `true`, and their alternation otherwise.
+/// Combines trees: joins each half of the trees, and then combines the two results. Returns the
+/// concatenation of all trees if `in_order` is `true`, and their alternation otherwise.
 ///
 /// # Errors
 ///
@@ -147,7 +147,7 @@ fn join(alloc: Global, in_order: bool, mut nodes: Vec<Node>) -> Result<Node, All
     pair(alloc, in_order, first, second)
 }
 
-/// Returns a count as a `usize`, or `None` if `count` is `None`.
+/// Returns `count` as a `usize`, or `None` if `count` is `None`.
 fn widen(count: Option<u32>) -> Option<usize>
     ensures { result ≡ count }
 {
@@ -157,7 +157,7 @@ fn widen(count: Option<u32>) -> Option<usize>
     }
 }
 
-/// Returns the prepared tree of `hir`. The size of `hir` must be within the limit.
+/// Returns the prepared tree of `hir`. The size of `hir` must be at most 1,048,576.
 ///
 /// # Errors
 ///
@@ -187,7 +187,7 @@ pub fn prepare(alloc: Global, hir: &Hir) -> Result<Node, AllocError>
 }
 
 /// Returns the prepared tree of a repetition of `sub` from `min` to `max` times. The size of the
-/// repetition must be within the limit.
+/// repetition must be at most 1,048,576.
 ///
 /// # Errors
 ///
@@ -222,7 +222,7 @@ fn prepare_repetition(
     })
 }
 
-/// Returns the prepared tree of each of `hirs`. The total size of `hirs` must be within the limit.
+/// Returns the prepared tree of each of `hirs`. The total size of `hirs` must be at most 1,048,576.
 ///
 /// # Errors
 ///

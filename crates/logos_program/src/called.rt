@@ -1,11 +1,12 @@
-//! Selects the program by the name under which the executable was invoked. Used by `main`.
+//! Functions that select the program by the name under which the executable was invoked. `main`
+//! calls `requested_by_name`.
 
 ghost use Rattle.std.specs.Prelude.{◌≡◌, ◌≢◌, ◌<◌, ◌≤◌, ◌-◌, ℕ, List, MatchBool, length, slice_index};
 ghost use Rattle.logos_program.specs.Called.{IsLastName, IsNameStart, program_of};
 
 use std::env::Env;
 
-/// The program that a name selects.
+/// A program that the name of the executable can select.
 #[derive(Clone, Copy)]
 pub(crate) enum Called {
     /// The program `logos`.
@@ -32,7 +33,7 @@ fn name_in(path: &[u8]) -> &[u8]
     &path[from..]
 }
 
-/// Returns whether `offset` is 0, or the byte of `path` before this byte offset is a slash.
+/// Returns whether `offset` is 0 or the byte of `path` directly before `offset` is a slash.
 fn is_name_start(path: &[u8], offset: usize) -> bool
     requires { offset ≤ length path.now }
     ensures { MatchBool result (IsNameStart path.now offset)
@@ -58,7 +59,8 @@ fn requested_by(name: &[u8]) -> Called
     Called::Logos
 }
 
-/// Returns the program that the path of an executable selects by the name of the file.
+/// Returns the program that the path of an executable selects. Only the name of the file in `path`
+/// matters.
 fn requested_at(path: &[u8]) -> Called
     ensures { (name : List ℕ) × IsLastName path.now name × (result ≡ program_of name) }
 {
@@ -66,8 +68,8 @@ fn requested_at(path: &[u8]) -> Called
 }
 
 /// Returns the program for the name under which the process was invoked, or `logos` if the name
-/// cannot be read. The function allocates no memory, so that all allocations of a process are made
-/// by the selected program.
+/// cannot be read. The function allocates no memory, so that the selected program makes all
+/// allocations of the process.
 pub(crate) fn requested_by_name<R: Env>(rt: &R) -> Called {
     let mut path = [0; LONGEST_PATH];
     match rt.arg(0, &mut path) {

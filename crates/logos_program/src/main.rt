@@ -1,6 +1,6 @@
-//! The executable of the programs `logos`, `logos_cli` and `logos_show`. It acts as the program
-//! under whose name it is invoked. One executable is built and checked for all three, because they
-//! share most of their code.
+//! The executable of the programs `logos`, `logos_cli` and `logos_show`. The executable acts as the
+//! program under whose name it is invoked. One executable is built and checked for all three
+//! programs, because the programs share most of their code.
 
 #![tactic(auto)]
 

@@ -1,5 +1,5 @@
-//! Reads the arguments of `logos_show`: the path of a file, and a question about its lexers. Called
-//! by `logos_show`.
+//! Reads the arguments of `logos_show`: the path of a file, and a question about the lexers of the
+//! file. Called by `logos_show`.
 
 #![tactic(auto)]
 

@@ -169,8 +169,9 @@ fn question_given<'w>(
     }
 }
 
-/// Returns the question that the option `one` and the second path `input` make. Refuses a missing
-/// second path if the option requires one, and any second path that the option does not take.
+/// Returns the question that the option `one` and the second path `input` make. Returns `Misuse` if
+/// the option requires a second path and there is none, or if there is a second path and the option
+/// takes none.
 fn question_named<'w>(
     one: GivenOption<'w>,
     input: Option<&'w str>,
@@ -193,8 +194,8 @@ fn question_named<'w>(
     }
 }
 
-/// Returns the question for at most `word` inputs. Refuses a `word` that is not a positive number,
-/// and any second path.
+/// Returns the question for at most `word` inputs. Returns `Misuse` if `word` is not a positive
+/// number, or if there is a second path.
 fn inputs_given<'w>(word: &'w str, input: Option<&'w str>) -> Result<Question<'w>, Failure<'w>>
     ensures requested { IfOk result (λ question. inputs_given (number_named word.now)
         (option_map (λ path. path.now) input.entry) ≡ Some (question_value question)) }
@@ -209,8 +210,8 @@ fn inputs_given<'w>(word: &'w str, input: Option<&'w str>) -> Result<Question<'w
 }
 
 /// Returns the question for the matches that start at a location of the file at the path `input`.
-/// `word` is the line and the column of the location. Refuses a malformed `word` and a missing
-/// path.
+/// `word` is the line and the column of the location. Returns `Misuse` if `word` is malformed, or
+/// if `input` is `None`.
 fn matches_given<'w>(word: &'w str, input: Option<&'w str>) -> Result<Question<'w>, Failure<'w>>
     ensures requested { IfOk result (λ question. matches_given (location_named word.now)
         (option_map (λ path. path.now) input.entry) ≡ Some (question_value question)) }

@@ -1,4 +1,5 @@
-//! Writes the JSON objects with the inputs that leaves find and lose. Used by `logos_replies`.
+//! Writes the JSON objects with examples for leaves: inputs in which a lexer finds a leaf, and
+//! inputs that a leaf loses to another leaf. Used by `logos_replies`.
 
 ghost use Rattle.std.specs.Prelude.{◌≡◌, ◌++◌, ◌∷◌, [], OnOk, codes, length, option_map};
 ghost use Rattle.logos_records.specs.Imports.{loss_value, Gains, IsGraphOf, Puts, PutsExample, PutsExamples, bytes_member, example_members, loss_members, maybe_bytes, null_member, number_member, object};
@@ -20,8 +21,8 @@ pub struct NamedGraph<'g, 's> {
 /// Appends a line with an object for each leaf of a graph without faults.
 ///
 /// The object has the name of the enum, the leaf, and two inputs: a shortest input in which a lexer
-/// finds the leaf first, and a shortest input that the leaf matches but a lexer finds as another
-/// leaf. The object also has the other leaf. A missing input is null.
+/// finds the leaf first, and a shortest input that the leaf matches but in which a lexer finds
+/// another leaf. The object also has the other leaf. A missing input is null.
 ///
 /// # Errors
 ///
@@ -62,7 +63,8 @@ fn push_example_record(
     Ok(())
 }
 
-/// Appends the inputs that a leaf finds and loses as members.
+/// Appends the members with the input in which a lexer finds a leaf first, and with the input that
+/// the leaf loses.
 fn push_evidence(lines: &mut JsonLines, evidence: &Evidence)
     ensures { Gains (example_members (option_map (λ input. input.items) evidence.now.found)
         (option_map loss_value evidence.now.loss)) lines.old lines.new }
@@ -71,7 +73,8 @@ fn push_evidence(lines: &mut JsonLines, evidence: &Evidence)
     push_loss(lines, &evidence.loss);
 }
 
-/// Appends a member with the input that a leaf finds, or with null if there is no such input.
+/// Appends a member with the input in which a lexer finds a leaf first, or with null if there is no
+/// such input.
 fn push_found(lines: &mut JsonLines, found: &Option<Vec<u8>>)
     ensures { Gains (maybe_bytes (codes "finds") (option_map (λ input. input.items) found.now))
         lines.old lines.new }

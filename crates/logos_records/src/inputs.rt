@@ -10,7 +10,7 @@ use logos_graph::graph::Graph;
 use logos_json::JsonLines;
 use std::alloc::{AllocError, Global};
 
-/// Lines of JSON for the first inputs, and the number of all inputs.
+/// Lines of JSON for the first inputs that were found, and the number of all inputs found.
 #[derive(Drop)]
 pub struct InputRecords {
     pub bytes: Vec<u8>,
@@ -37,8 +37,8 @@ pub fn input_records(
     Ok(InputRecords { bytes, count })
 }
 
-/// Appends a line for each of the first `most` inputs found that together take all edges of a
-/// graph. Returns the number of all inputs found.
+/// Appends a line for each of the first `most` inputs in a list of inputs that together take all
+/// edges of a graph. Returns the number of inputs in the list.
 fn push_input_records(
     alloc: Global,
     lines: &mut JsonLines,

@@ -6,7 +6,7 @@ ghost use Rattle.logos_records.specs.Views.{Gains, Puts, object, item_members, k
 use logos_json::JsonLines;
 use logos_lines::Location;
 
-/// An item of an input, with the facts that its object states.
+/// An item of an input, with the values that its JSON object contains.
 #[derive(Clone, Copy)]
 pub struct ItemRecord<'i> {
     /// The line and the column at which the item begins.

@@ -7,7 +7,7 @@ use logos_inspect::{Costs, LeafRow};
 use logos_json::JsonLines;
 
 /// Appends one line for each leaf of the enum `name`: a JSON object that describes the leaf. The
-/// number of a leaf is the index of its row in `rows`.
+/// number of a leaf is its index in `rows`.
 pub fn push_leaf_records(lines: &mut JsonLines, name: &str, rows: &[LeafRow<'_>])
     ensures { Puts (leaf_objects name.now 0 rows.now) lines.old lines.new }
 {

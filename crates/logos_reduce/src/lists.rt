@@ -1,5 +1,5 @@
-//! Vectors of lists of states, with one list for each state or block. Merging and pruning store
-//! edges and blocks in such vectors.
+//! Functions on vectors of lists of states. A vector has one list for each state or block. `merge`
+//! and `prune` store edges in such vectors, and `merge` also stores the states of blocks.
 
 ghost use Rattle.std.specs.Prelude.{true, ◌≡◌, ◌≢◌, ℕ, ◌+◌, ◌-◌, ◌<◌, ◌≤◌, ◌⊎◌, Some, OnOk, IfOk, IsTrue, IsFalse, length, slice_get, vec_len, slice_index};
 ghost use Rattle.logos_reduce.specs.Views.{has, has_in, Rises, AreRising, ArePredecessors, target_by, size, to};
@@ -36,7 +36,7 @@ fn ends_with(list: &Vec<usize>, s: usize) -> bool
     }
 }
 
-/// Appends the number `s` to `list` unless `s` is already its last number.
+/// Appends the number `s` to `list` unless `s` is already the last number of `list`.
 ///
 /// # Errors
 ///
@@ -95,8 +95,8 @@ fn file_target(
     Ok(())
 }
 
-/// Appends the state `s` to the list of each of its targets on the first `width` symbols. `row` is
-/// the row of `s`.
+/// Appends the state `s` to the list of each target of `s` on the first `width` symbols, unless `s`
+/// is already the last state of this list. `row` is the row of `s`.
 fn file_row(
     lists: &mut Vec<Vec<usize>>,
     row: &Row,
@@ -123,8 +123,8 @@ fn file_row(
     Ok(())
 }
 
-/// Returns, for each state, the states that lead to it on one of the first `width` symbols, in
-/// ascending order and without duplicates.
+/// Returns, for each state, its predecessors: the states that lead to the state on one of the first
+/// `width` symbols, in ascending order and without duplicates.
 ///
 /// # Errors
 ///

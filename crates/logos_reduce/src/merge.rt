@@ -1,5 +1,5 @@
-//! Merges equivalent states: states that no sequence of symbols distinguishes. `reduce` calls
-//! `merge` as its third step, after pruning.
+//! Merges equivalent states, which no sequence of symbols distinguishes. `reduce` calls `merge` as
+//! its third step, after `prune`.
 
 ghost use Rattle.std.specs.Prelude.{◌≡◌, ◌≢◌, ℕ, ◌+◌, ◌<◌, ◌≤◌, Some, IfOk, MatchOption, length, vec_len, slice_index, option_map};
 ghost use Rattle.logos_reduce.specs.Views.{target_by, target_block, IsSound, AreLeaders, IsMerged, IsFiner, IsExtension, IsLanding, size, to};
@@ -20,7 +20,8 @@ use crate::table::Table;
 use std::alloc::{AllocError, Global};
 
 /// Returns the first symbol on which two rows lead to different blocks, or `None` if there is no
-/// such symbol. A missing target counts as a block of its own. `blocks` is the block of each state.
+/// such symbol. A missing target counts as a block of its own. `blocks` contains the block of each
+/// state.
 fn first_difference(row: &Row, other: &Row, blocks: &Vec<usize>) -> Option<usize>
     requires row { (k t : ℕ) → target_by row.now k ≡ Some t → t < vec_len blocks.now }
     requires other { (k t : ℕ) → target_by other.now k ≡ Some t → t < vec_len blocks.now }
@@ -41,7 +42,8 @@ fn first_difference(row: &Row, other: &Row, blocks: &Vec<usize>) -> Option<usize
     None
 }
 
-/// A state, the leader of its block, and a symbol on which the two lead to different blocks.
+/// A state, the leader of its block, and a symbol on which the state and the leader lead to
+/// different blocks.
 #[derive(Clone, Copy, Drop)]
 struct Difference {
     leader: usize,
@@ -49,8 +51,8 @@ struct Difference {
     symbol: usize,
 }
 
-/// Returns a state, the leader of its block, and a symbol on which the two lead to different
-/// blocks. Returns `None` if there is no such state.
+/// Compares each state with the leader of its block. Returns a state, the leader, and a symbol on
+/// which the state and the leader lead to different blocks, or `None` if there is no such state.
 fn find_difference(table: &Table, blocks: &Vec<usize>, leaders: &Vec<usize>) -> Option<Difference>
     requires len { vec_len blocks.now ≡ size table.now }
     requires within { (s : ℕ) → s < size table.now →
@@ -87,7 +89,8 @@ struct Cut {
     /// The block that is cut.
     home: usize,
     symbol: usize,
-    /// The block to which the moved states lead on `symbol`, or `None` if they have no target.
+    /// The block to which the moved states lead on `symbol`, or `None` if the moved states have no
+    /// target on `symbol`.
     to: Option<usize>,
     /// The number of the new block.
     fresh: usize,
@@ -181,7 +184,7 @@ pub struct Partition {
 /// Returns the blocks of equivalent states.
 ///
 /// The states are first grouped into classes with equal marks and equal rows. If there are at most
-/// about half as many classes as states, classes are merged instead of states.
+/// half as many classes as states, rounded up, classes are merged instead of states.
 ///
 /// # Errors
 ///

@@ -1,4 +1,4 @@
-//! Numbers the blocks of a table by first visit, breadth first from the block of the root. `reduce`
+//! Numbers the blocks of a table in breadth-first order, from the block of the root on. `reduce`
 //! calls `number` as its last step.
 
 ghost use Rattle.std.specs.Prelude.{◌≡◌, ℕ, ◌+◌, ◌-◌, ◌<◌, ◌≤◌, ◌++◌, ◌∷◌, ◌⊎◌, ◌^◌, [], Some, OnOk, IfOk, length, vec_len, slice_index, option_map, option_and_then};
@@ -11,8 +11,8 @@ use crate::rows::{Row, Rows, WIDTH, fill_run, run_end, target_at};
 use crate::table::{StateMarks, Table};
 use std::alloc::{AllocError, Global};
 
-/// Appends the block `target` to `order` if it is not in the order yet. Does nothing if `target` is
-/// `None`.
+/// Appends the block `target` to `order` if `order` does not contain it yet. Does nothing if
+/// `target` is `None`.
 fn meet_target(order: &mut Order, target: Option<usize>) -> Result<(), AllocError>
     requires { (b : ℕ) → target ≡ Some b → b < vec_len order.old.numbers }
     ensures len { vec_len order.new.numbers ≡ vec_len order.old.numbers }
@@ -28,8 +28,8 @@ fn meet_target(order: &mut Order, target: Option<usize>) -> Result<(), AllocErro
     Ok(())
 }
 
-/// Appends to `order` the blocks to which its block at the index `i` leads, except blocks that are
-/// already in the order.
+/// Appends the targets of the block at the index `i` of `order` to `order`, except blocks that
+/// `order` already contains.
 fn meet_targets(
     order: &mut Order,
     table: &Table,
@@ -203,7 +203,7 @@ fn numbered_marks(
     Ok(marks)
 }
 
-/// A table whose states are the blocks of another table, with the block that each state represents.
+/// A table whose states represent the blocks of another table, with the block of each state.
 #[derive(Drop)]
 pub struct Numbering {
     pub table: Table,
@@ -212,7 +212,7 @@ pub struct Numbering {
 }
 
 /// Returns the table whose states are the blocks that can be reached from the block of the state
-/// `root`, in the order of first visits.
+/// `root`, in breadth-first order.
 ///
 /// # Errors
 ///

@@ -1,5 +1,5 @@
-//! States in the order in which they are visited. `prune` stores such an order of states, and
-//! `number` stores such an order of blocks.
+//! Contains lists of states or blocks in the order in which they are visited. `prune` stores an
+//! order of states, and `number` stores an order of blocks.
 
 ghost use Rattle.std.specs.Prelude.{true, ◌≡◌, ℕ, ◌+◌, ◌<◌, ◌++◌, ◌∷◌, ◌⊎◌, [], OnOk, IfOk, length, vec_len, slice_index};
 ghost use Rattle.logos_reduce.specs.Imports.{IsOrder, IsMet, Grows};
@@ -9,9 +9,9 @@ use std::alloc::{AllocError, Global};
 /// States without duplicates, in the order in which they were visited.
 #[derive(Drop)]
 pub struct Order {
-    /// For each state, one more than its index in `states`, or 0 if it was not visited.
+    /// For each state, one more than its index in `states`, or 0 if the state was not visited.
     pub numbers: Vec<usize>,
-    /// The states that were visited, in order.
+    /// The visited states, in the order of their visits.
     pub states: Vec<usize>,
     ghost in_order: { IsOrder numbers.items states.items },
 }
@@ -45,7 +45,7 @@ impl Order {
         0
     }
 
-    /// Appends the state `s` to the order if it is not in the order yet.
+    /// Appends the state `s` to the order if the order does not contain it yet.
     ///
     /// # Errors
     ///
@@ -69,8 +69,8 @@ impl Order {
         Ok(())
     }
 
-    /// Appends the state `s` to the order if `wanted` is `true` and the state is not in the order
-    /// yet.
+    /// Appends the state `s` to the order if `wanted` is `true` and the order does not contain the
+    /// state yet.
     ///
     /// # Errors
     ///

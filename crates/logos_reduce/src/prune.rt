@@ -1,5 +1,5 @@
 //! Removes the edges to states that have no mark and lead to no state with a mark. `reduce` calls
-//! `prune` as its second step, after marks are settled.
+//! `prune` as its second step, after `settle`.
 
 ghost use Rattle.std.specs.Prelude.{true, ◌≡◌, ℕ, ◌+◌, ◌<◌, ◌≤◌, ◌↔◌, ◌⊎◌, Some, OnOk, IfOk, IsTrue, IsSome, length, vec_len, slice_index};
 ghost use Rattle.logos_reduce.specs.Views.{has, IsMet, Grows, IsMarked, target_by, target_of, target_in, size, to, mark, type_of, IsSeed, AreUseful, met_target, IsPrunedTable, rows_of};
@@ -47,7 +47,7 @@ fn seeds(alloc: Global, table: &Table) -> Result<Order, AllocError>
     Ok(order)
 }
 
-/// Appends the states of `list` that are not in the order yet.
+/// Appends the states of `list` to `order`, except states that `order` already contains.
 fn meet_all(order: &mut Order, list: &Vec<usize>) -> Result<(), AllocError>
     requires { (s : ℕ) → has list.now.items s ≡ true → s < vec_len order.old.numbers }
     ensures len { vec_len order.new.numbers ≡ vec_len order.old.numbers }
@@ -94,7 +94,7 @@ fn prune_row(row: &mut Row, order: &Order)
     }
 }
 
-/// Returns the entry of `row` on the symbol `k`, or 0 if its target is not in `order`.
+/// Returns the entry of `row` on the symbol `k`, or 0 if the target of the entry is not in `order`.
 fn pruned_entry(row: &Row, k: usize, order: &Order) -> u32
     requires { k < WIDTH }
     ensures { target_of result ≡ met_target order.now.numbers.items (target_by row.now k) }
@@ -131,8 +131,7 @@ fn pruned_rows(rows: Rows, order: &Order) -> Rows
     Rows { slots, distinct }
 }
 
-/// Returns the table without the edges to states that have no mark and lead to no state with a
-/// mark.
+/// Returns `table` without the edges to states that have no mark and lead to no state with a mark.
 ///
 /// # Errors
 ///

@@ -1,5 +1,5 @@
-//! Reduces a table to the smallest table that records the same matches. Called by `logos_graph`
-//! with the table of an automaton.
+//! Reduces a table to the smallest table that records the same matches. `logos_graph` calls
+//! `reduce` with the table of an automaton.
 
 ghost use Rattle.std.specs.Prelude.{◌<◌, IfOk};
 ghost use Rattle.logos_reduce.specs.Views.{IsRaw, IsReductionOf, IsLeast, IsInOrder, IsSpareless, size, YieldsEvidence};
@@ -17,7 +17,7 @@ use std::alloc::{AllocError, Global};
 pub struct Reduction {
     /// The reduced table. Its states are numbered by first visit from the root, which is state 0.
     pub table: Table,
-    /// For each state, the number of its block in `splits`.
+    /// For each state of `table`, the block that it represents, as an index of `splits`.
     pub blocks: Vec<usize>,
     /// For each block, the split that separated it from a block with a lower number.
     pub splits: Vec<Split>,
@@ -26,9 +26,9 @@ pub struct Reduction {
 /// Returns the smallest table that records the same matches as `table` after the same bytes, from
 /// the state `root` on.
 ///
-/// Early marks are set, and the late marks that they make redundant are removed. Edges to states
-/// that have no mark and lead to no state with a mark are removed. Equivalent states are merged.
-/// The states that can be reached from the root are numbered by first visit.
+/// Early marks are set, and the late marks that the early marks make redundant are removed. Edges
+/// to states that have no mark and lead to no state with a mark are removed. Equivalent states are
+/// merged. The states that can be reached from the root are numbered by first visit.
 ///
 /// Suppose that each state of `table` can be reached, that the root has no mark, that all marks are
 /// late, and that no state after the end of the input leads to a mark. Then each state of the

@@ -1,18 +1,20 @@
-//! The hash of a row of targets. `rows` finds equal rows by their hash. No proof about rows depends
-//! on the hash.
+//! Computes the hash of a row of targets. `rows` finds equal rows by their hash. No proof about
+//! rows depends on the hash.
 //!
-//! Each entry is mixed with its own key, and the results are summed. The entries of a row are
-//! therefore mixed independently, and several at once.
+//! Each entry is mixed with its own key, and the results are summed. Therefore the entries of a row
+//! are mixed independently, and a processor can mix several entries at once.
 
 use crate::rows::{Row, WIDTH};
 
-/// An odd number whose bits look random.
+/// The number by which an entry is multiplied when it is mixed: an odd number whose bits look
+/// random.
 const MULTIPLIER: u32 = 0x9e37_79b1;
 
 /// The difference between the keys of two neighboring entries.
 const STEP: u32 = 0x85eb_ca77;
 
-/// An odd 64-bit number whose bits look random.
+/// The number by which the sum of the mixed entries is multiplied: an odd number whose bits look
+/// random.
 const SPREAD: u64 = 0x9e37_79b9_7f4a_7c15;
 
 /// Returns `entry` mixed with `key`.

@@ -1,5 +1,5 @@
-//! A list of rows of targets. Equal rows are stored once unless a different row has the same hash.
-//! Each `Table` stores its rows in such a list.
+//! Contains lists of rows of targets. A list stores equal rows once, unless a different row has the
+//! same hash. Each `Table` stores its rows in such a list.
 
 ghost use Rattle.std.specs.Prelude.{◌≡◌, ◌≢◌, ℕ, ◌<◌, ◌≤◌, ◌+◌, ◌++◌, ◌∷◌, [], IfOk, IfSome, IsTrue, OnOk, length, vec_len, slice_index, slice_index_or};
 ghost use Rattle.logos_reduce.specs.Rows.{AreSame, AreWide, HasOnly, target_by};
@@ -93,8 +93,8 @@ impl Rows {
         &self.distinct.keys[slot]
     }
 
-    /// Returns the index of `row` among the distinct rows, or `None` if it does not equal the last
-    /// row that was added with the hash `hash`.
+    /// Returns the index of `row` among the distinct rows if `row` equals the last row that was
+    /// added with the hash `hash`, and `None` otherwise.
     fn find(&self, row: &Row, hash: u64) -> Option<usize>
         ensures { IfSome result (λ slot. (slot < vec_len self.now.distinct.keys)
             × (slice_index_or self.now.distinct.keys.items slot [] ≡ row.now)) }
@@ -106,7 +106,8 @@ impl Rows {
         None
     }
 
-    /// Appends `row`, whose hash is `hash`, to the distinct rows, and returns its index among them.
+    /// Appends `row`, whose hash is `hash`, to the distinct rows. Returns the index of `row` among
+    /// the distinct rows.
     fn add(&mut self, row: &Row, hash: u64) -> Result<usize, AllocError>
         ensures slots { self.new.slots ≡ self.old.slots }
         ensures slot { IfOk result (λ slot. slot ≡ vec_len self.old.distinct.keys) }
@@ -119,8 +120,8 @@ impl Rows {
         Ok(slot)
     }
 
-    /// Returns the index of `row` among the distinct rows. Appends the row first if it is not
-    /// found.
+    /// Returns the index of `row` among the distinct rows. Appends `row` to the distinct rows first
+    /// if `find` returns `None`.
     fn slot_of(&mut self, row: &Row) -> Result<usize, AllocError>
         ensures slots { self.new.slots ≡ self.old.slots }
         ensures slot { IfOk result (λ slot. (slot < vec_len self.new.distinct.keys)
@@ -160,7 +161,7 @@ pub fn target_at(row: &Row, k: usize) -> Option<usize>
     if entry == 0 { None } else { Some(entry - 1) }
 }
 
-/// The number of entries that are compared together.
+/// The number of entries in a group, which are compared together.
 const GROUP: usize = 16;
 
 /// Returns whether all entries of the group that begins at the index `from` equal `entry`.
@@ -177,7 +178,7 @@ fn is_filled(row: &Row, from: usize, entry: u32) -> bool
 }
 
 /// Returns the end of a run of equal entries that begins at the index `start`. The run consists of
-/// the entry at `start` and of whole groups after it.
+/// the entry at `start` and of whole groups after this entry.
 fn past_groups(row: &Row, start: usize) -> usize
     requires { start < WIDTH }
     ensures after { (start < result) × (result ≤ WIDTH) }
@@ -220,8 +221,8 @@ pub(crate) fn fill_run(row: &mut Row, from: usize, to: usize, entry: u32)
     }
 }
 
-/// Sets the entries at the indices `from..to`, which are equal, to `entry`. Changes nothing if they
-/// already equal `entry`.
+/// Sets the entries at the indices `from..to` to `entry`. These entries must be equal. Changes
+/// nothing if they already equal `entry`.
 pub(crate) fn set_run(row: &mut Row, from: usize, to: usize, entry: u32)
     requires within { (from < to) × (to ≤ WIDTH) }
     requires run { HasOnly row.old from to (slice_index row.old from) }
@@ -248,8 +249,8 @@ fn are_same(row: &Row, other: &Row, from: usize) -> bool
     !differ
 }
 
-/// Returns an index up to which two rows have equal entries from the index `start` on. Only whole
-/// groups are compared.
+/// Returns an index `end` such that two rows have equal entries at the indices `start..end`.
+/// Compares only whole groups.
 fn past_same_groups(row: &Row, other: &Row, start: usize) -> usize
     requires { start ≤ WIDTH }
     ensures after { (start ≤ result) × (result ≤ WIDTH) }

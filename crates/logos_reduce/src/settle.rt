@@ -1,5 +1,5 @@
-//! Sets early marks, and removes the late marks that they make redundant. `reduce` calls `settle`
-//! as its first step.
+//! Sets early marks, and removes the late marks that the early marks make redundant. `reduce` calls
+//! `settle` as its first step.
 
 ghost use Rattle.std.specs.Prelude.{◌≡◌, ◌≢◌, ℕ, ◌+◌, ◌<◌, ◌↔◌, ◌⊎◌, None, Some, IfOk, length, vec_len, slice_index_or, if◌then◌else◌};
 ghost use Rattle.logos_reduce.specs.Views.{size, to, mark, mark_in, IsNeeded, IsSpare, IsSettled, accepted_in, IsCommonIn, AreCommonIn, AreCommon, IsSet, AreNeeded, IsMarkedBy};
@@ -8,8 +8,8 @@ use crate::rows::{END, Row, WIDTH, run_end, target_at};
 use crate::table::{StateMarks, Table};
 use std::alloc::{AllocError, Global};
 
-/// Returns the late mark of the state to which `row` leads on the symbol `k`, or `None` if there is
-/// no such state or it has no late mark.
+/// Returns the late mark of the state to which `row` leads on the symbol `k`. Returns `None` if
+/// there is no such state, or if the state has no late mark.
 fn accepted_by(table: &Table, row: &Row, k: usize) -> Option<usize>
     requires { k < WIDTH }
     ensures { result ≡ accepted_in table.now row.now k }
@@ -31,8 +31,8 @@ fn common_leaf(table: &Table, row: &Row) -> Option<usize>
     Some(leaf)
 }
 
-/// Returns, for each distinct row, the late mark that all its targets share, or `None` if there is
-/// no such mark.
+/// Returns, for each distinct row, the late mark that all targets of the row share, or `None` if
+/// there is no such mark.
 fn common_leaves(alloc: Global, table: &Table) -> Result<Vec<Option<usize>>, AllocError>
     ensures len { IfOk result (λ v. vec_len v ≡ length table.now.rows.distinct.keys.items) }
     ensures leaves { IfOk result (λ v.
@@ -59,8 +59,8 @@ fn early_marks(alloc: Global, table: &Table) -> Result<Vec<Option<usize>>, Alloc
     Ok(early)
 }
 
-/// Sets the flag of the state `t` in `needed` if its late mark differs from `early`, the early mark
-/// of a state that leads to `t`. The late mark is then needed.
+/// Sets the flag of the state `t` in `needed` if the late mark of `t` differs from `early`, the
+/// early mark of a state that leads to `t`. The late mark is then needed.
 fn note_target(table: &Table, t: usize, early: Option<usize>, needed: &mut Vec<bool>)
     requires inside { t < size table.now }
     requires len { vec_len needed.old ≡ size table.now }
@@ -75,8 +75,9 @@ fn note_target(table: &Table, t: usize, early: Option<usize>, needed: &mut Vec<b
     }
 }
 
-/// Sets the flag of `target`, the target of an edge, in `needed` if its late mark differs from
-/// `early`, the early mark of the state that the edge leaves. Does nothing if `target` is `None`.
+/// Sets the flag of `target`, the target of an edge, in `needed` if the late mark of `target`
+/// differs from `early`, the early mark of the state from which the edge leads. Does nothing if
+/// `target` is `None`.
 fn note_edge(table: &Table, target: Option<usize>, early: Option<usize>, needed: &mut Vec<bool>)
     requires inside { (t : ℕ) → target ≡ Some t → t < size table.now }
     requires len { vec_len needed.old ≡ size table.now }
@@ -92,8 +93,8 @@ fn note_edge(table: &Table, target: Option<usize>, early: Option<usize>, needed:
     }
 }
 
-/// Sets the flag in `needed` of each target of the state `s` whose late mark differs from `early`,
-/// the early mark of `s`.
+/// Sets the flags in `needed` of those targets of the state `s` whose late marks differ from
+/// `early`, the early mark of `s`.
 fn note_targets(table: &Table, s: usize, early: Option<usize>, needed: &mut Vec<bool>)
     requires state { s < size table.now }
     requires len { vec_len needed.old ≡ size table.now }
@@ -111,8 +112,8 @@ fn note_targets(table: &Table, s: usize, early: Option<usize>, needed: &mut Vec<
     }
 }
 
-/// Returns, for each state, whether its late mark is needed. `early` is the early mark of each
-/// state.
+/// Returns, for each state, whether its late mark is needed. `early` contains the early mark of
+/// each state.
 fn needed_marks(
     alloc: Global,
     table: &Table,
@@ -142,8 +143,8 @@ fn settled_mark(mark: StateMarks, early: Option<usize>, needed: bool) -> StateMa
     }
 }
 
-/// Returns the settled marks of all states. `early` is the early mark of each state, and `needed`
-/// is `true` for each state whose late mark is needed.
+/// Returns the settled marks of all states. `early` contains the early mark of each state, and
+/// `needed` contains `true` for each state whose late mark is needed.
 fn settled_marks(
     alloc: Global,
     table: &Table,
@@ -163,7 +164,8 @@ fn settled_marks(
     Ok(marks)
 }
 
-/// Returns the table with early marks, and without the late marks that they make redundant.
+/// Returns `table` with early marks, and without the late marks that the early marks make
+/// redundant.
 ///
 /// # Errors
 ///

@@ -1,5 +1,5 @@
-//! Tables of states with their marks and rows of targets. `logos_graph` builds a table from an
-//! automaton, and the reduction builds further tables from it.
+//! Contains tables of states, with the marks and the row of targets of each state. `logos_graph`
+//! builds a table from an automaton, and `reduce` builds further tables from this table.
 
 ghost use Rattle.std.specs.Prelude.{◌≡◌, ℕ, ◌+◌, ◌<◌, ◌^◌, Some, length, vec_len};
 ghost use Rattle.logos_reduce.specs.Rows.{IsClosed, target_by};
@@ -8,7 +8,7 @@ ghost use Rattle.logos_reduce.specs.RowsView.{rows_of};
 use crate::rows::{Row, Rows, WIDTH, target_at};
 
 /// The marks of a state: the leaf whose match ends at the state, and the leaf whose match ends one
-/// byte before.
+/// byte before the state.
 #[derive(Clone, Copy, PartialEq, Eq, Drop)]
 pub struct StateMarks {
     /// The late mark: the leaf whose match ends one byte before the state, or `None` if there is no
@@ -35,8 +35,8 @@ impl Table {
     /// index `s`.
     ///
     /// The caller must ensure that there are as many marks as rows, that each target is the number
-    /// of a state, and that there are fewer than 4,294,967,295 states. The rows are added one by
-    /// one with `Rows::push`, in the order of the states.
+    /// of a state, and that there are fewer than 4,294,967,295 states. To build `rows`, append the
+    /// row of each state with `Rows::push`, in the order of the states.
     pub fn new(marks: Vec<StateMarks>, rows: Rows) -> Table
         requires same_len { length (rows_of rows) ≡ vec_len marks }
         requires closed { IsClosed (vec_len marks) (rows_of rows) }
@@ -73,7 +73,7 @@ impl Table {
         None
     }
 
-    /// Returns the row of the state `s`, which contains its targets.
+    /// Returns the row of the state `s`, which contains the targets of `s`.
     pub fn row(&self, s: usize) -> &Row
         requires { s < size self.now }
         ensures row { (k : ℕ) → target_by result.now k ≡ to self.now s k }

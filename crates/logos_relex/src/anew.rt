@@ -1,4 +1,5 @@
-//! Lexes an input from a border until a former border is met, or the input ends. Called by `Lexed`.
+//! Functions that lex an input from a border until a former border is met, or the input ends.
+//! Called by `Lexed`.
 
 ghost use Rattle.std.specs.Prelude.{◌≤◌, ◌<◌, ◌^◌, IfOk, drop, length};
 ghost use Rattle.logos_relex.specs.Views.{answers_of, bytes_of, IsAnew, IsBorder, IsMade, TakesMatches};

@@ -1,4 +1,4 @@
-//! Finds borders between chunks. Used by `anew` and `lexed`.
+//! Functions that find borders between chunks. Called by `anew` and `lexed`.
 
 ghost use Rattle.std.specs.Prelude.{◌<◌, ◌≤◌, ◌^◌, take};
 ghost use Rattle.logos_relex.specs.Views.{bytes_of, IsBorder, LookBelow};

@@ -1,5 +1,6 @@
-//! Finds chunks: the items of a few thousand bytes that the bytes of a window alone determine. Used
-//! by `anew`, `borders` and `lexed`.
+//! Defines chunks, and functions that find the next chunk of an input. A chunk contains the items
+//! of a few thousand bytes. The bytes of a window determine these items. Used by `anew`, `borders`
+//! and `lexed`.
 
 ghost use Rattle.std.specs.Prelude.{◌≡◌, ◌<◌, ◌≤◌, length, map, take, IfOk, IfErr, IfSome};
 ghost use Rattle.logos_relex.specs.Views.{Runs, answers_of, offset_of, item_at, IsChunk, IsInput, IsRefused, SettlesUpTo, TakesMatches};
@@ -48,7 +49,7 @@ impl Chunk {
     }
 
     /// Returns the number of bytes, counted from the chunk's first byte, that were examined to find
-    /// its items.
+    /// the chunk's items.
     pub fn window(&self) -> usize
         ensures { result ≡ self.now.window }
     {
@@ -66,8 +67,9 @@ fn offset_of(item: Item<'_>) -> ItemAt
     }
 }
 
-/// Returns the first items of a lexer's input that do not depend on the bytes after the input, and
-/// the offset at which the next match attempt begins. The lexer must be at the start of the input.
+/// Returns the leading items of a lexer's input that do not depend on the bytes after the input,
+/// and the offset at which the next match attempt begins. The lexer must be at the start of the
+/// input.
 ///
 /// # Errors
 ///
@@ -104,7 +106,7 @@ fn characters<'p>(code: &Code, part: &'p [u8]) -> &'p [u8]
     }
 }
 
-/// Returns the first chunk of an input, or `None` if `part`, a prefix of the input, determines no
+/// Returns the first chunk of an input, or `None` if the prefix `part` of the input determines no
 /// chunk.
 ///
 /// # Errors
@@ -166,7 +168,7 @@ pub(crate) fn next_chunk<C: Fn(LeafId, &[u8]) -> Action>(
     Ok(None)
 }
 
-/// Returns all items of `bytes`, the last bytes of an input.
+/// Returns all items of `bytes`, which must be the last bytes of an input.
 ///
 /// # Errors
 ///
@@ -189,7 +191,7 @@ pub(crate) fn last_items<C: Fn(LeafId, &[u8]) -> Action>(
     Ok(offsets(alloc, &found)?)
 }
 
-/// Returns items without their bytes.
+/// Returns the items `found` without their bytes.
 ///
 /// # Errors
 ///

@@ -1,5 +1,5 @@
-//! Laws of the definitions. The contract of each function is a law. A proof uses a law by calling
-//! its function, which does nothing.
+//! Laws about the items of an input. The contract of each function is a law. A proof uses a law by
+//! calling its function, which does nothing.
 
 ghost use Rattle.logos_relex.specs.Views.{answers_of, LexedIsRun};
 

@@ -1,4 +1,5 @@
-//! Holds the items of an input that changes. Used by users' code.
+//! The type `Lexed`, which contains the items of an input that changes. Part of the public
+//! interface.
 
 ghost use Rattle.std.specs.Prelude.{◌≡◌, ◌≤◌, IfOk, IfErr, OnErr, OnOk, length};
 ghost use Rattle.logos_relex.specs.Views.{answers_of, ComesAfter, IsInput, IsLexed, IsRefused, PutsAnew, Stays, TakesMatches, WasLexed, Memory as OutOfMemory, NotUtf8 as NoUtf8};
@@ -69,7 +70,7 @@ pub struct Lexed {
 
 impl Lexed {
     /// Returns the items that `code` finds in `input`. For each match of a leaf that has a
-    /// callback, `callback` receives the leaf and the slice, and returns the action.
+    /// callback, `callback` receives the leaf and the bytes of the match, and returns the action.
     ///
     /// # Errors
     ///
@@ -131,8 +132,8 @@ impl Lexed {
     /// code and the callback of the former items, and the input must be unchanged outside of the
     /// replaced span. Items that do not depend on the edit remain: the items before the edit, and
     /// the items from the first border after the edit that the new items also reach. `callback` is
-    /// called only for bytes that are lexed again, so its action must depend on the leaf and the
-    /// slice alone.
+    /// called only for bytes that are lexed again, so the action that `callback` returns must
+    /// depend on the leaf and the bytes of the match alone.
     ///
     /// # Errors
     ///
@@ -187,9 +188,9 @@ impl Lexed {
         Ok(())
     }
 
-    /// Replaces the former chunks from the index `from` on with the chunks in `made`, up to the
-    /// former chunk that follows them. If no former chunk follows them, also replaces the last
-    /// items. The edited input has `length` bytes.
+    /// Replaces former chunks with the chunks in `made`. The replaced chunks begin at the index
+    /// `from`, and end before the former chunk that follows the new chunks. If no former chunk
+    /// follows the new chunks, also replaces the last items. The edited input has `length` bytes.
     ///
     /// # Errors
     ///
@@ -228,8 +229,8 @@ impl Lexed {
         self.length
     }
 
-    /// Returns the chunks, in order. The first chunk begins at the input's first byte, and every
-    /// other chunk begins where its predecessor ends.
+    /// Returns the chunks in the order of the input. The first chunk begins at the input's first
+    /// byte, and every other chunk begins where its predecessor ends.
     pub fn chunks(&self) -> &[Chunk]
         ensures { result.now ≡ self.now.chunks.items }
     {

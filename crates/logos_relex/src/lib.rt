@@ -1,5 +1,5 @@
-//! Updates the items of an input after an edit, without lexing chunks again that do not depend on
-//! the edit. Called by users' code.
+//! The type `Lexed`, which updates the items of an input after an edit. Chunks that do not depend
+//! on the edit are not lexed again. Part of the public interface.
 
 #![tactic(auto)]
 

@@ -1,5 +1,5 @@
-//! Prints the leaves and the cost of a lexer, or examples of its leaves. Used by the modules
-//! `page_files` and `pages` of `logos_show`.
+//! Functions that print the leaves and the cost of a lexer, or examples of the leaves. Used by the
+//! modules `page_files` and `pages` of `logos_show`.
 
 use logos_answers::{push_costs, push_examples, push_rows};
 use logos_codegen::Generated;
@@ -13,7 +13,8 @@ use logos_records::{
 use logos_report::Part;
 use std::alloc::Global;
 
-/// The form in which the lexers of a file are shown.
+/// The form in which the lexers of a file are shown: the leaves or examples of the leaves, as text
+/// or as JSON.
 #[derive(Clone, Copy)]
 pub enum Form {
     Tables,

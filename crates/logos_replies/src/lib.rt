@@ -1,7 +1,7 @@
-//! Prints the replies of `logos_show` to questions about lexers, as text or as lines of JSON: the
-//! leaves of a lexer, the matches that start at a point of an input, inputs that take all edges,
-//! the verdict on two lexers, and the outcome of comparing an answer with a stored answer. Called
-//! by `logos_show`.
+//! Functions that print the replies of `logos_show` to questions about lexers, as text or as lines
+//! of JSON: the leaves of a lexer, the matches that begin at a point of an input, inputs that
+//! together take all edges, the verdict on two lexers, and the outcome of comparing an answer with
+//! a stored answer. Called by `logos_show`.
 
 #![tactic(auto)]
 

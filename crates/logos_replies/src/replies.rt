@@ -1,6 +1,6 @@
-//! Writes the matches at a point of an input, inputs that take all edges, and the outcome of a
-//! comparison with a stored answer. Used by the modules `inputs`, `matches` and `program` of
-//! `logos_show`.
+//! Functions that write the matches that begin at a point of an input, inputs that together take
+//! all edges of a graph, and the outcome of a comparison with a stored answer. Used by the modules
+//! `inputs`, `matches` and `program` of `logos_show`.
 
 ghost use Rattle.std.specs.Prelude.{◌≡◌, IfErr, IfOk, OnOk};
 ghost use Rattle.logos_replies.specs.Views.{AllStart, Gains, IsBytes, IsGraphOf, rules_of, IsNoMisuse, PrintsAgreement, PrintsInputRecords, PrintsInputs, PrintsMatchRecords, PrintsMatches, location_line};
@@ -31,14 +31,17 @@ pub struct InputPoint<'w, 'i> {
     pub location: Location,
 }
 
-/// Writes the matches that start at a point of an input, as lines of text. The match or the error
+/// Writes the matches that begin at a point of an input, as lines of text. The match or the error
 /// around the point, if there is one, is written before the matches. If no leaf matches, the
 /// partial matches are written.
 ///
 /// # Errors
 ///
-/// Returns `Refused` if the input does not have the point, `Output` or `Closed` if writing fails,
-/// and `Memory` if memory runs out.
+/// Returns:
+///
+/// - `Refused` if the input does not have the point
+/// - `Output` or `Closed` if writing fails
+/// - `Memory` if memory runs out
 pub fn write_matches<O: Write>(
     alloc: Global,
     graph: &Graph<'_>,
@@ -64,12 +67,15 @@ pub fn write_matches<O: Write>(
     print_bytes(text.as_str().as_bytes(), out)
 }
 
-/// Writes the matches that start at a point of an input, as lines of JSON.
+/// Writes the matches that begin at a point of an input, as lines of JSON.
 ///
 /// # Errors
 ///
-/// Returns `Refused` if the input does not have the point, `Output` or `Closed` if writing fails,
-/// and `Memory` if memory runs out.
+/// Returns:
+///
+/// - `Refused` if the input does not have the point
+/// - `Output` or `Closed` if writing fails
+/// - `Memory` if memory runs out
 pub fn write_match_records<O: Write>(
     alloc: Global,
     graph: &Graph<'_>,
@@ -89,7 +95,7 @@ pub fn write_match_records<O: Write>(
     print_bytes(&bytes, out)
 }
 
-/// Appends the line with the location at which matches start.
+/// Appends the line with the location at which matches begin.
 fn push_location(page: &mut Page, location: Location)
     ensures { Gains (location_line location) page.old page.new }
 {
@@ -178,8 +184,8 @@ fn note_of_cut(alloc: Global, most: usize, count: usize) -> Result<String, Alloc
     page.finish()
 }
 
-/// Writes whether the answer `made` equals the bytes `stored` at `path`, and returns the outcome.
-/// If the answer differs, writes the first difference.
+/// Writes whether the answer `made` equals the bytes `stored` of the file at `path`, and the first
+/// difference if there is one. Returns the outcome.
 ///
 /// # Errors
 ///

@@ -1,4 +1,5 @@
-//! Prints the verdict on two lexers. Used by the module `comparison` of `logos_show`.
+//! `compare_with` prints the verdict on two lexers. Called by the module `comparison` of
+//! `logos_show`.
 
 ghost use Rattle.std.specs.Prelude.{◌≡◌, ◌∷◌, [], IfErr, IfOk, OnOk, string_bytes};
 ghost use Rattle.logos_replies.specs.Views.{Finding, IsGraphOf, IsNoMisuse, IsVerdictRecord, IsVerdictText, PrintsVerdict, Puts, PutsVerdict, ShowsVerdict, ShowsVerdictText, agreement_of, difference_object, status_of};
@@ -30,8 +31,8 @@ pub struct Judgment {
 }
 
 /// Writes the verdict on two lexers, and returns the verdict with the note about their callbacks.
-/// If the lexers differ on an input, writes a shortest input at whose start the lexers find a
-/// different match or error, and the match or error of each lexer.
+/// The verdict on lexers that differ on an input includes a shortest input at whose start the
+/// lexers find different matches or errors, and the match or the error that each lexer finds.
 ///
 /// # Errors
 ///
@@ -180,8 +181,8 @@ fn push_compared_record(
     Ok(())
 }
 
-/// Appends the JSON object with an input on which two lexers differ, and with the match or error
-/// that each lexer finds at the start of the input.
+/// Appends the JSON object with an input on which two lexers differ, and with the match or the
+/// error that each lexer finds at the start of the input.
 fn push_findings(
     alloc: Global,
     lines: &mut JsonLines,

@@ -52,8 +52,8 @@ impl Clues {
     }
 }
 
-/// The clues about the remaining faults of a source, with the position in the current set of
-/// ambiguous leaves.
+/// The clues about the remaining faults of a source, and the number of faults that have been passed
+/// in the current set of ambiguous leaves.
 #[derive(Clone, Copy)]
 pub struct NextFaults<'c> {
     /// The clues about the sets of ambiguous leaves that have remaining faults.
@@ -70,11 +70,11 @@ pub struct NextFaults<'c> {
 #[derive(Clone, Copy)]
 pub struct Member<'c> {
     pub meeting: &'c Meeting,
-    /// The number of faults in the set before this fault.
+    /// The number of faults of the set that precede this fault.
     pub number: usize,
 }
 
-/// Returns all of `clues`, with no fault passed.
+/// Returns the clues that remain before the first fault: all of `clues`.
 pub fn first_faults(clues: &Clues) -> NextFaults<'_>
     ensures faults { next_value result ≡ record { sizes = sizes_of clues.now; passed = 0 } }
     ensures starts { starts_in result ≡ starts_of clues.now }
@@ -167,8 +167,9 @@ impl<'c> NextFaults<'c> {
         }
     }
 
-    /// Returns the patterns that explain a fault with the code `code`: the patterns that can
-    /// examine the bytes before their start if the code is `NoUniversalStart`, and otherwise none.
+    /// Returns the patterns that explain a fault with the code `code`. For the code
+    /// `NoUniversalStart`, these are the patterns that can examine bytes before the start of a
+    /// match. For any other code, the list is empty.
     pub fn starts(self, code: FaultCode) -> &'c [Start]
         ensures { result.now ≡ (if is_explained code then self.entry.starts.now else []) }
     {

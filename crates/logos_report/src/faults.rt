@@ -1,5 +1,5 @@
-//! Appends faults to a report with their notes and help texts, and counts the errors among faults.
-//! Called by `file_report`, `sets` and other crates.
+//! Appends faults, with their notes and help texts, to a report, and counts the errors among the
+//! faults. Called by `file_report`, `sets` and other crates.
 
 ghost use Rattle.std.specs.Prelude.{◌≡◌, ◌≤◌, ◌++◌, ◌==◌, ◌∷◌, [], codes, if◌then◌else◌, length, take};
 ghost use Rattle.logos_report.specs.Views.{count_by, name_of, fault_of, faults_of, is_error, shown_text, code_text, count_text, counted_texts, fault_texts, faults_texts, texts_after, first_line, has_name, head_line, rest_line, rest_text, seen_of, summary_line, all_faults, listed_faults, begins_error, errors_after, first_faults, sizes_of, next_value, Gains, Shows, painted, location_line, starts_in, starts_of};
@@ -28,7 +28,7 @@ pub struct KnownFault<'f> {
     pub help: Option<&'static str>,
 }
 
-/// Appends the faults of a part of a file, in order.
+/// Appends the faults of a part of a file, in the order of `errors`.
 ///
 /// For each fault, the appended text has a line with the name of the fault's code and the first
 /// line of its message, and a line with its location in the file. In a set of ambiguous leaves with
@@ -47,8 +47,8 @@ pub fn push_faults(page: &mut Page, part: Part<'_, '_>, errors: &Errors, clues: 
     push_all(page, part, listing, first_faults(clues));
 }
 
-/// Appends the faults of a part, `listing.faults`, in order. `first` contains the clues from the
-/// first of these faults on.
+/// Appends the faults in `listing.faults`, in the order of this list. `first` contains the clues
+/// from the first of these faults on.
 pub(crate) fn push_all(
     page: &mut Page,
     part: Part<'_, '_>,
@@ -165,9 +165,9 @@ fn has_code(fault: &SpannedError, code: FaultCode) -> bool
     fault.code.name() == code.name()
 }
 
-/// Returns the number of error reports for the faults in `errors`. A fault with the code
-/// `Previous`, an earlier definition to which an error refers, is not an error. A set of ambiguous
-/// leaves with a clue has one report.
+/// Returns the number of error reports for the faults in `errors`. A fault with the code `Previous`
+/// is not an error, because it only shows an earlier definition to which an error refers. A set of
+/// ambiguous leaves with a clue has one report.
 pub fn count_errors(errors: &Errors, clues: &Clues) -> usize
     ensures { result ≡ errors_after (first_faults (sizes_of clues.now)) errors.now }
 {
@@ -205,7 +205,7 @@ pub fn is_error(code: FaultCode) -> bool
     !matches!(code, FaultCode::Previous)
 }
 
-/// Appends the line that ends a report, with `count` as the number of errors.
+/// Appends the last line of a report, which contains `count`, the number of errors.
 pub fn push_summary(page: &mut Page, count: usize)
     ensures { Gains (summary_line page.old.is_colored count) page.old page.new }
 {
@@ -216,8 +216,8 @@ pub fn push_summary(page: &mut Page, count: usize)
     page.push("\n");
 }
 
-/// Appends the rest of the line that ends a report: `: aborting due to`, and `count` as the number
-/// of errors.
+/// Appends the text after the word `error` in the last line of a report. The text contains `count`,
+/// the number of errors.
 fn push_count(page: &mut Page, count: usize)
     ensures { Gains (count_text count) page.old page.new }
 {
@@ -226,7 +226,8 @@ fn push_count(page: &mut Page, count: usize)
     page.push(errors_text(count));
 }
 
-/// Returns the text that follows `count`, the number of errors.
+/// Returns the text after the number of errors in the last line of a report. `count` is this
+/// number.
 fn errors_text(count: usize) -> &'static str
     ensures { result.now ≡ (if count == 1 then codes " previous error" else codes " previous errors") }
 {
@@ -249,7 +250,7 @@ pub fn push_fault(page: &mut Page, part: Part<'_, '_>, known: KnownFault<'_>)
 }
 
 /// Appends the location of a fault and its lines with carets. Appends only the location if the
-/// fault is a source that is too long. Returns the width of the column of line numbers.
+/// fault is that the source is too long. Returns the width of the column of line numbers.
 fn push_span(page: &mut Page, part: Part<'_, '_>, fault: &SpannedError) -> usize
     ensures { Shows (location_line page.old.is_colored part.entry.source.now part.entry.offset
         fault.now.span.from ∷ []) page.old page.new }

@@ -1,5 +1,6 @@
-//! Appends the faults of all parts of a file to a report, in order. The limit on shown faults
-//! applies to all parts together. Used by `logos_derive`, `logos_expand` and `logos_messages`.
+//! Appends the faults of all parts of a file to a report, in the order of the parts. The limit on
+//! shown faults applies to all parts together. Used by `logos_derive`, `logos_expand` and
+//! `logos_messages`.
 
 ghost use Rattle.std.specs.Prelude.{◌≡◌, ◌++◌, ◌+◌, ◌<◌, ◌^◌, ◌-◌, length, min};
 ghost use Rattle.logos_page.specs.Pages.{PageValue};
@@ -11,8 +12,8 @@ use crate::source::{Part, Source};
 use logos_page::Page;
 use logos_token::error::{Errors, FaultCode, SpannedError};
 
-/// The faults of a part of a file, with the clues about them. The part is an enum, or the whole
-/// file if the file cannot be read.
+/// The faults of a part of a file, with the clues about these faults. The part is an enum, or the
+/// whole file if the file cannot be read.
 #[derive(Drop)]
 pub struct Refused {
     /// The byte offset of the part in the file.
@@ -23,7 +24,7 @@ pub struct Refused {
     pub clues: Clues,
 }
 
-/// The faults of a part of a file, with the parts before and after it.
+/// The faults of a part of a file, with the parts before and after this part.
 #[derive(Clone, Copy)]
 pub struct FaultListing<'f> {
     /// The parts of the file before this part.
@@ -34,8 +35,8 @@ pub struct FaultListing<'f> {
     pub later: &'f [Refused],
 }
 
-/// Appends the faults of the parts `refused` of a file, in order, as `push_faults` does for one
-/// part. Shows at most 50 faults with one code in all parts together.
+/// Appends the faults of the parts `refused` of a file, in the order of the list, as `push_faults`
+/// does for one part. Shows at most 50 faults with one code in all parts together.
 pub fn push_refused(page: &mut Page, source: &Source<'_>, refused: &[Refused])
     ensures { Shows (refused_texts page.old.is_colored source.now refused.now) page.old page.new }
 {
@@ -86,7 +87,7 @@ pub fn seen_in(earlier: &[Refused], front: &[SpannedError], code: FaultCode) -> 
 }
 
 /// Returns the number of faults with the code `code` in a part and in the parts before and after
-/// it, but at most `usize::MAX`.
+/// this part, but at most `usize::MAX`.
 pub fn count_in(listing: FaultListing<'_>, code: FaultCode) -> usize
     ensures { result ≡ min (count_by (has_name (name_of code)) (listed_faults listing.entry))
         (2 ^ 64 - 1) }

@@ -1,5 +1,5 @@
-//! Appends a span of a file in a frame: its location, its lines, and carets under it. Used by
-//! `faults`, `sets`, `notes` and `warnings`.
+//! Appends a frame for a span of a file: the location of the span, the lines on which the span
+//! begins and ends, and carets under the span. Used by `faults`, `sets`, `notes` and `warnings`.
 
 ghost use Rattle.std.specs.Prelude.{◌∷◌, []};
 ghost use Rattle.logos_report.specs.Views.{Begins, Continues, shown_text, Gains, Shows, arrow_line, location_line, shown_location, shown_line_column};
@@ -10,7 +10,7 @@ use logos_lines::Location;
 use logos_page::{Page, Style, digits};
 use logos_token::token::Span;
 
-/// A span of a file, and the style and the label with which it is shown.
+/// A span of a file, and the style and the label with which the span is shown.
 #[derive(Clone, Copy)]
 struct Frame<'p, 't> {
     source: &'p Source<'t>,
@@ -26,7 +26,7 @@ struct Frame<'p, 't> {
     label: &'p str,
 }
 
-/// A span of a part of a file, with the style and the label of the carets under it.
+/// A span of a part of a file, with the style and the label of the carets under the span.
 #[derive(Clone, Copy)]
 pub(crate) struct Marks<'l> {
     /// The span to mark with carets, in bytes of the part.
@@ -38,8 +38,9 @@ pub(crate) struct Marks<'l> {
 }
 
 /// Appends the location of the start of `span`, the lines on which the span begins and ends, and
-/// carets in the style `style` under the span. `span` is in bytes of the part, and long lines are
-/// cut around it. Returns the number of digits of the last line's number.
+/// carets in the style `style` under the span. `span` is in bytes of the part. Of a line that does
+/// not fit in the frame, only the columns around the span are shown. Returns the number of digits
+/// of the last line's number.
 pub fn push_frame(page: &mut Page, part: Part<'_, '_>, span: Span, style: Style) -> usize
     ensures { Shows (location_line page.old.is_colored part.entry.source.now part.entry.offset span.from
         ∷ []) page.old page.new }
@@ -92,8 +93,9 @@ fn spot_in(part: Part<'_, '_>, offset: usize) -> FileSpot {
     }
 }
 
-/// Returns the end of the shown part of the span from `first` to `end`. This is `end`, or the
-/// preceding byte if the span ends at the beginning of a line after the line of `first`.
+/// Returns the end of the shown part of the span from `first` to `end`: the location of the
+/// preceding byte if the span ends at the beginning of a line after the line of `first`, and `end`
+/// otherwise.
 fn last_shown(source: &Source<'_>, first: FileSpot, end: FileSpot) -> FileSpot {
     if (end.location.column > 1) | (lines_after(first, end) == 0) {
         return end;
@@ -133,7 +135,7 @@ fn push_line_column(page: &mut Page, source: &Source<'_>, location: Location)
     page.push_number(location.column);
 }
 
-/// Appends the line with a location, without its leading spaces: `-->` and the location.
+/// Appends `-->` and a location: the line with the location, without the spaces at its beginning.
 fn push_arrow(page: &mut Page, source: &Source<'_>, location: Location)
     ensures { Gains (arrow_line page.old.is_colored source.now.path location) page.old page.new }
 {
@@ -143,8 +145,8 @@ fn push_arrow(page: &mut Page, source: &Source<'_>, location: Location)
     page.push("\n");
 }
 
-/// Appends an empty margin and the lines of a span, with carets under each line: the only line, or
-/// the first and the last line.
+/// Appends an empty margin, and the first and the last line of a span with carets under each of the
+/// two. A span on a single line has only this line.
 fn push_lines(page: &mut Page, frame: Frame<'_, '_>)
     ensures { Shows [] page.old page.new }
 {
@@ -159,7 +161,7 @@ fn push_lines(page: &mut Page, frame: Frame<'_, '_>)
     }
 }
 
-/// Appends the line of a span that begins and ends on one line, with carets under it.
+/// Appends the line of a span that begins and ends on one line, with carets under the span.
 fn push_only_line(page: &mut Page, frame: Frame<'_, '_>)
     ensures { Shows [] page.old page.new }
 {
@@ -216,7 +218,7 @@ fn push_margin(page: &mut Page, width: usize)
     page.paint(Style::Frame, "|");
 }
 
-/// Appends `line`, the number of a line, and the shown part of the line.
+/// Appends the line number `line`, and the shown part of the line with this number.
 fn push_line(page: &mut Page, frame: Frame<'_, '_>, line: usize, window: LineWindow<'_>)
     ensures { Shows [] page.old page.new }
 {

@@ -1,5 +1,5 @@
-//! Reports faults in the format of rustc, with the line of the file and carets under the span.
-//! Called by `logos_cli` and `logos_show`.
+//! Prints faults in the format of rustc, with the lines of the file and with carets under the spans
+//! of the faults. Called by `logos_cli` and `logos_show`.
 
 #![tactic(auto)]
 

@@ -1,5 +1,5 @@
-//! Appends the lines under a fault: the rest of its message, its second span, and its help. Used by
-//! `faults`, `sets`, `warnings` and `logos_messages`.
+//! Appends the lines under a fault: the lines of the message after the first line, the location of
+//! the second span, and the help. Used by `faults`, `sets`, `warnings` and `logos_messages`.
 
 ghost use Rattle.std.specs.Prelude.{[]};
 ghost use Rattle.logos_report.specs.Imports.{Begins, Continues, Ends, IsInLine, Shows};
@@ -54,8 +54,8 @@ pub fn push_put_in(page: &mut Page, part: Part<'_, '_>, put: PutIn<'_>)
     push_location(page, part, put.definition);
 }
 
-/// Appends a line under a fault, without its line end: the margin, `kind`, such as `help`, and
-/// `text`.
+/// Appends a line under a fault, without its line end. The line consists of the margin, the word
+/// `kind`, such as `help`, the separator `: `, and `text`.
 pub(crate) fn push_note(page: &mut Page, width: usize, kind: &str, text: &str)
     requires { IsInLine kind.now }
     ensures { Begins page.old page.new }
@@ -75,7 +75,7 @@ fn push_note_mark(page: &mut Page, width: usize)
     page.push(" ");
 }
 
-/// Appends the note with the location of the second span of a fault, if there is one.
+/// Appends the note with the location of the second span of a fault, if there is such a span.
 fn push_other_location(page: &mut Page, shown: ShownFault<'_, '_, '_>)
     ensures { Shows [] page.old page.new }
 {
@@ -86,7 +86,7 @@ fn push_other_location(page: &mut Page, shown: ShownFault<'_, '_, '_>)
     }
 }
 
-/// Appends the line with the help for a fault, if there is one.
+/// Appends the line with the help for a fault, if there is a help text for the fault.
 pub(crate) fn push_help(page: &mut Page, shown: ShownFault<'_, '_, '_>)
     ensures { Shows [] page.old page.new }
 {
@@ -96,9 +96,9 @@ pub(crate) fn push_help(page: &mut Page, shown: ShownFault<'_, '_, '_>)
     }
 }
 
-/// Appends the nonempty lines of a fault's message after the first line. For an ambiguous leaf, the
-/// first of these lines name the other leaves of the set, each followed by the location of the
-/// leaf's fault.
+/// Appends the nonempty lines of a fault's message after the first line. In the message about an
+/// ambiguous leaf, the lines after the first line begin with one line for each other leaf of the
+/// set. Such a line is followed by the location of the other leaf's fault.
 fn push_other_lines(page: &mut Page, shown: ShownFault<'_, '_, '_>)
     ensures { Shows [] page.old page.new }
 {
@@ -122,7 +122,8 @@ fn push_other_line(page: &mut Page, shown: ShownFault<'_, '_, '_>, line: &str, n
     push_leaf_location(page, shown.part, shown.known.set.other(number));
 }
 
-/// Appends the location of `other`, the fault of another leaf, if there is one, and a line end.
+/// Appends the location of `other`, the fault of another leaf, and a line end. Appends only the
+/// line end if `other` is `None`.
 fn push_leaf_location(page: &mut Page, part: Part<'_, '_>, other: Option<&SpannedError>)
     ensures { Ends page.old page.new }
 {
@@ -130,7 +131,8 @@ fn push_leaf_location(page: &mut Page, part: Part<'_, '_>, other: Option<&Spanne
     page.push("\n");
 }
 
-/// Appends the location of `other`, the fault of another leaf, if there is one.
+/// Appends the location of `other`, the fault of another leaf. Appends nothing if `other` is
+/// `None`.
 fn push_leaf_at(page: &mut Page, part: Part<'_, '_>, other: Option<&SpannedError>)
     ensures { Continues page.old page.new }
 {

@@ -5,9 +5,9 @@ use crate::source::Part;
 use logos_token::error::{Detail, PatternDetail, SpannedError};
 use logos_token::token::Span;
 
-/// Returns the span to mark with carets for a fault, in bytes of the part. This is the character or
-/// the escape at which the pattern of a literal is faulty, or the span of the fault if there is no
-/// such character or escape.
+/// Returns the span to mark with carets for a fault, in bytes of the part: the span of the
+/// character or the escape at which the pattern of a literal is faulty, or the span of the fault if
+/// there is no such character or escape.
 pub fn caret_span(part: Part<'_, '_>, fault: &SpannedError) -> Span {
     match fault.detail {
         Detail::Pattern(detail) => pattern_span(part, fault.span, detail),
@@ -80,13 +80,14 @@ enum LiteralState {
     Hex,
     /// An escape, after `\x` and a digit. `is_high` is `true` if the digit is at least 8.
     Digit { is_high: bool },
-    /// An escape, after `\u` and perhaps `{` and digits. The number is the value of the digits.
+    /// An escape, after `\u`, and perhaps after `{` and digits. The number is the value of the
+    /// digits that have been read.
     Number(u32),
     /// A backslash at the end of a line, and the blanks after it.
     Blanks,
 }
 
-/// The state of a reader of a literal, before one of the literal's characters.
+/// The state of a reader of a literal, before a character of the literal.
 #[derive(Clone, Copy)]
 struct Reader {
     is_raw: bool,
@@ -97,8 +98,8 @@ struct Reader {
 }
 
 /// Returns the span of the piece that spells the byte at the index `byte` of a literal's value, or
-/// `None` if the value has no such byte. `start` is the reader before `inner`, the text between the
-/// quotes.
+/// `None` if the value has no such byte. `inner` is the text between the quotes of the literal, and
+/// `start` is the reader before this text.
 fn find(start: Reader, inner: &str, byte: usize) -> Option<Span> {
     let mut reader = start;
     let mut left = byte;
@@ -115,7 +116,7 @@ fn find(start: Reader, inner: &str, byte: usize) -> Option<Span> {
 
 impl Reader {
     /// Returns the reader after a character, and the number of bytes that the piece ending with
-    /// this character spells, or 0 if no piece ends with the character.
+    /// this character spells. The number is 0 if no piece ends with the character.
     fn after(self, character: char) -> (Reader, usize) {
         let from = match self.state {
             LiteralState::Plain => self.piece.to,
@@ -138,7 +139,7 @@ impl Reader {
     }
 
     /// Returns the state after a character, and the number of bytes that the piece ending with this
-    /// character spells, or 0 if no piece ends with the character.
+    /// character spells. The number is 0 if no piece ends with the character.
     fn step(self, character: char) -> (LiteralState, usize) {
         match self.state {
             LiteralState::Plain => self.begin(character),
@@ -198,7 +199,7 @@ fn digit(number: u32, character: char) -> (LiteralState, usize) {
     }
 }
 
-/// Returns the number of bytes in UTF-8 of the character with the code point `number`.
+/// Returns the number of bytes in the UTF-8 encoding of the character with the code point `number`.
 fn utf8_length(number: u32) -> usize {
     match number {
         0..=0x7F => 1,

@@ -1,6 +1,6 @@
-//! Appends faults with the clues about them. Each set of ambiguous leaves with a clue has one
-//! report. A pattern that can examine bytes before the start of a match is shown under the fault
-//! that it explains. Used by `faults`.
+//! Appends faults to a report, with the clues about the faults. Each set of ambiguous leaves with a
+//! clue has one report. A pattern that can examine bytes before the start of a match is shown under
+//! the fault that it explains. Used by `faults`.
 
 ghost use Rattle.std.specs.Prelude.{◌∷◌, ◌++◌, [], map, nat_lt, if◌then◌else◌};
 ghost use Rattle.logos_report.specs.Views.{fault_of, from_of, fault_texts, listed_texts, Shows, location_line, next_value, offsets_of, starts_in};
@@ -16,8 +16,9 @@ use logos_token::error::SpannedError;
 /// The maximum number of patterns that are shown under a fault.
 const MOST: usize = 50;
 
-/// Appends `known`, the next fault, with the clues about it: as a member of its set of ambiguous
-/// leaves, or with the patterns that explain it. `next` contains the clues from this fault on.
+/// Appends `known`, the next fault, with the clues about the fault. A fault in a set of ambiguous
+/// leaves with a clue is appended as a member of the set, and any other fault is appended with the
+/// patterns that explain the fault. `next` contains the clues from this fault on.
 pub(crate) fn push_listed(
     page: &mut Page,
     part: Part<'_, '_>,

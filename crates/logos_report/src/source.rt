@@ -1,5 +1,5 @@
-//! Files and parts of files, with the locations of byte offsets in them. Used by all modules that
-//! report faults or warnings.
+//! Defines files and parts of files, and finds the locations of byte offsets in them. Used by all
+//! modules that print faults or warnings.
 
 ghost use Rattle.std.specs.Prelude.{◌≡◌, ◌≤◌, ◌⊎◌, IfOk, MatchOption, length};
 ghost use Rattle.logos_report.specs.Views.{IsLineOf, IsLongLine, IsNoLine, location_at, in_file};

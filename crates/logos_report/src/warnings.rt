@@ -20,17 +20,18 @@ pub struct Warning {
     pub message: String,
     /// The span of the mistake, in bytes of the part.
     pub span: Span,
-    /// A further explanation on one line, if there is one.
+    /// A further explanation on one line, if there is such an explanation.
     pub note: Option<String>,
     /// The help, if there is one.
     pub help: Option<&'static str>,
-    /// A second span of the mistake, in bytes of the part, if there is one.
+    /// A second span of the mistake, in bytes of the part, if there is such a span.
     pub also: Option<Span>,
 }
 
-/// Appends the first 50 warnings of a part of a file, or all if there are fewer, in order. If there
-/// are more, appends the number of warnings that are left out. For each warning, the appended text
-/// has a line with its message and a line with its location.
+/// Appends the first 50 warnings of a part of a file, or all warnings if there are fewer than 50,
+/// in the order of `warnings`. If there are more than 50, appends the number of warnings that are
+/// left out. For each warning, the appended text has a line with its message and a line with its
+/// location.
 pub fn push_warnings(page: &mut Page, part: Part<'_, '_>, warnings: &[Warning])
     ensures { Shows (warnings_texts page.old.is_colored part.entry.source.now part.entry.offset
         warnings.now) page.old page.new }
@@ -39,7 +40,7 @@ pub fn push_warnings(page: &mut Page, part: Part<'_, '_>, warnings: &[Warning])
     push_left_out(page, warnings.len().saturating_sub(MOST));
 }
 
-/// Returns the warnings that are shown: the first 50, or all if there are fewer.
+/// Returns the warnings that are shown: the first 50, or all if there are fewer than 50.
 pub fn first_of(warnings: &[Warning]) -> &[Warning]
     ensures { result.now ≡ shown_of warnings.now }
 {
@@ -50,7 +51,7 @@ pub fn first_of(warnings: &[Warning]) -> &[Warning]
     }
 }
 
-/// Appends each warning in `warnings`, in order.
+/// Appends all warnings in `warnings`, in the order of the list.
 fn push_all(page: &mut Page, part: Part<'_, '_>, warnings: &[Warning])
     ensures { Shows (all_texts page.old.is_colored part.entry.source.now part.entry.offset
         warnings.now) page.old page.new }
@@ -150,7 +151,8 @@ fn push_line(page: &mut Page, width: usize, kind: &str, text: &str)
     page.push("\n");
 }
 
-/// Appends the line with the location of the second span of a warning, if there is one.
+/// Appends the line with the location of `also`, the second span of a warning. Appends nothing if
+/// `also` is `None`.
 fn push_other(page: &mut Page, part: Part<'_, '_>, width: usize, also: Option<Span>)
     ensures { Shows [] page.old page.new }
 {

@@ -1,5 +1,6 @@
-//! The shown part of a line: the whole line, or about 140 columns around a location in it. Only
-//! bytes near the location are examined, however long the line is. Used by `frame`.
+//! The shown part of a line: the whole line, or about 140 columns around a location in the line. At
+//! most 800 bytes on either side of the location are examined, regardless of the length of the
+//! line. Used by `frame`.
 
 ghost use Rattle.std.specs.Prelude.{◌≡◌};
 ghost use Rattle.logos_report.specs.Imports.{Continues};
@@ -10,7 +11,8 @@ use logos_page::{Page, columns_of};
 
 /// The width of the shown part of a line, in columns.
 const COLUMNS: usize = 140;
-/// The maximum width, in columns, of a text before the first caret that is shown whole.
+/// The maximum width, in columns, of the text before the first caret if none of this text is left
+/// out.
 const NEAR: usize = 100;
 /// The number of columns before the first caret that are shown if earlier columns are left out.
 const FRONT: usize = 60;
@@ -26,7 +28,8 @@ pub(crate) struct FileSpot {
     pub(crate) location: Location,
 }
 
-/// The text of a line near a location, with the number of its leading characters that are left out.
+/// The text of a line near a location, and the number of leading characters of this text that are
+/// left out.
 #[derive(Clone, Copy)]
 pub(crate) struct LineWindow<'t> {
     /// The text near the location.

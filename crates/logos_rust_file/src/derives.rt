@@ -75,8 +75,8 @@ fn begins_list(tokens: Tokens<'_, '_>) -> bool
     }
 }
 
-/// Returns whether one of the entries `tokens` of a `derive` names the derive macro, with or
-/// without a path.
+/// Returns whether an entry of a `derive` names the derive macro, with or without a path. `tokens`
+/// are the entries of the `derive`.
 fn lists_macro(tokens: Tokens<'_, '_>) -> bool
     ensures { result ≡ lists_macro true (tokens_of tokens.entry) }
 {

@@ -16,17 +16,18 @@ use std::alloc::Global;
 /// An enum that was found in a file.
 #[derive(Clone, Copy, Debug)]
 pub struct FoundEnum {
-    /// The span of the enum in the file, in bytes: from its first attribute, its visibility or
-    /// `enum` to the end of its braces.
+    /// The span of the enum in the file, in bytes. The span begins with the first attribute of the
+    /// enum, with the visibility if there is no attribute, or with `enum` if there is neither. The
+    /// span ends with the braces of the enum.
     pub span: Span,
-    /// The byte span of the enum's name, which is the identifier after `enum`, or `None` if there
-    /// is no such identifier.
+    /// The span of the enum's name in the file, in bytes, or `None` if `enum` is not followed by an
+    /// identifier.
     pub name: Option<Span>,
     /// Whether one of the `derive` attributes at the front of the enum has the entry `Logos`,
     /// `logos::Logos` or `::logos::Logos`.
     pub derives: bool,
-    /// Whether one of the `derive` attributes has the entry `Logos` without a path. For such an
-    /// entry, the file imports the macro.
+    /// Whether one of the `derive` attributes has the entry `Logos` without a path. Such an entry
+    /// names the macro through an import.
     pub by_name: bool,
 }
 
@@ -35,16 +36,17 @@ pub struct FoundEnum {
 pub struct ReadFile<'s> {
     /// The tokens of the file.
     pub stream: TokenStream<'s>,
-    /// The enums of the file, in order, as `enums_in` returns them.
+    /// The enums of the file, in the order in which they occur, as `enums_in` returns them.
     pub found: Vec<FoundEnum>,
 }
 
-/// Returns the enums at the top level of a Rust file and in the bodies of its modules, at any
-/// depth, in order. Does not search the bodies of functions or the arguments of macros.
+/// Returns the enums at the top level of a Rust file and in the bodies of its modules, in the order
+/// in which they occur in the file. Searches modules at any depth, but neither the bodies of
+/// functions nor the arguments of macros.
 ///
 /// # Errors
 ///
-/// Returns `Errors` with the one fault of a file that cannot be read into tokens: `LimitSource`,
+/// Returns `Errors` if the file cannot be read into tokens. The only fault is then `LimitSource`,
 /// `Lexical` or `LimitTokenNesting`. Returns `Memory` if memory runs out.
 pub fn enums_in(alloc: Global, text: &str) -> Result<Vec<FoundEnum>, Refusal>
     ensures found { IfOk result (λ found. AreEnumsOf text.now found.items) }

@@ -1,5 +1,5 @@
-//! Reads the beginnings of items: their attributes, their visibility, their kind, and the name of
-//! an enum. `finder` calls `kind_of` for each item, and `name_of` for each enum.
+//! Reads the beginning of an item: its attributes, its visibility, its kind, and the name of an
+//! enum. `finder` calls `kind_of` for each item, and `name_of` for each enum.
 
 ghost use Rattle.std.specs.Prelude.{◌≡◌, ◌<◌, MatchOption};
 ghost use Rattle.logos_rust_file.specs.Views.{Token, also, count_of, tokens_of, tree_of, after_attributes, after_body, after_hash, after_head, braced_in, ends_body, kind_at, kind_of, kind_value, module_in, name_at, name_of};
@@ -95,8 +95,8 @@ fn kind_at<'t, 's>(tokens: Tokens<'t, 's>) -> ItemKind<'t, 's>
     }
 }
 
-/// Returns a module if `tokens`, the tokens after `mod`, begin with a name and braces. Otherwise
-/// returns `Other` with the rest `tokens`.
+/// Returns a module if `tokens` begin with a name and braces. Otherwise returns `Other` with the
+/// rest `tokens`. `tokens` are the tokens after `mod`.
 fn module_at<'t, 's>(tokens: Tokens<'t, 's>) -> ItemKind<'t, 's>
     ensures { kind_value result ≡ module_in (tokens_of tokens.entry) }
 {
@@ -106,8 +106,9 @@ fn module_at<'t, 's>(tokens: Tokens<'t, 's>) -> ItemKind<'t, 's>
     }
 }
 
-/// Returns a module if `after`, the tokens after the name of the module, begin with braces.
-/// Otherwise returns `Other` with the rest `tokens`, which begin with the name.
+/// Returns a module if `after` begins with braces. Otherwise returns `Other` with the rest
+/// `tokens`. `tokens` begin with the name of the module, and `after` contains the tokens after this
+/// name.
 fn braced_module<'t, 's>(tokens: Tokens<'t, 's>, after: Tokens<'t, 's>) -> ItemKind<'t, 's>
     ensures { kind_value result ≡ braced_in (tokens_of tokens.entry) (tokens_of after.entry) }
 {
@@ -156,8 +157,8 @@ fn ends_body(tree: TokenTree<'_, '_>) -> bool
     }
 }
 
-/// Returns the span of the name of an enum, the identifier after `enum`, or `None` if there is no
-/// such identifier. `item` are the tokens of the enum.
+/// Returns the span of the name of an enum, or `None` if `enum` is not followed by an identifier.
+/// `item` contains the tokens of the enum.
 pub(crate) fn name_of(item: Tokens<'_, '_>) -> Option<Span>
     ensures { result ≡ name_of (tokens_of item.entry) }
 {

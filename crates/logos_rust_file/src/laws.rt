@@ -1,5 +1,5 @@
-//! Laws about the enums of a file. No code calls these functions: the contract of each function is
-//! a proved law.
+//! Laws of the enums of a file. No code calls these functions: the contract of each function is a
+//! proved law.
 
 ghost use Rattle.std.specs.Prelude.{◌≡◌, Ok, Some};
 ghost use Rattle.logos_rust_file.specs.Imports.{TokenList, Reads, EnumValue, loses_derive, derives};
@@ -11,7 +11,7 @@ pub fn derives_where_stripped()
         derives tokens ≡ loses_derive tokens }
 {}
 
-/// An enum that `read_enum` reads is found with the name that `read_enum` reads.
+/// If `read_enum` reads an enum, the enum is found with the name that `read_enum` returns.
 pub fn names_as_read()
     ensures { (tokens : TokenList) (value : EnumValue) → Reads tokens (Ok value) →
         name_of tokens ≡ Some value.name.span }

@@ -54,7 +54,7 @@ fn has_name(entries: Tokens<'_, '_>) -> bool {
     false
 }
 
-/// Returns whether the run begins with the whole entry `Logos`.
+/// Returns whether the run begins with an entry that consists of `Logos` alone.
 fn is_name(tokens: Tokens<'_, '_>) -> bool {
     match tokens.first() {
         Some(TokenTree::Ident(word)) => (word.text == "Logos") & is_macro_entry(tokens),

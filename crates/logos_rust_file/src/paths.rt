@@ -10,7 +10,7 @@ use logos_token::error::Memory;
 use logos_token::token::Delimiter;
 use std::alloc::Global;
 
-/// The first lexeme of a text, and the text after it.
+/// The first lexeme of a text, and the text after the lexeme.
 #[derive(Clone, Copy)]
 struct Word<'t> {
     kind: LexemeKind,
@@ -19,8 +19,8 @@ struct Word<'t> {
 }
 
 /// Returns the path of an enum in the file with the text `text`, such as `lexers::Token`. The path
-/// consists of the names of the modules that are open where the enum begins, and of the enum's own
-/// name, which is empty if the enum has none.
+/// consists of the names of the modules around the enum, and of the name of the enum. The name of
+/// the enum is empty if the enum has none.
 ///
 /// # Errors
 ///
@@ -60,7 +60,7 @@ fn name_in(text: &str, found: FoundEnum) -> &str
     }
 }
 
-/// Returns whether `path` ends with `::` and the path `end`.
+/// Returns whether `path` ends with `::` followed by the path `end`.
 pub fn ends_with_path(path: &str, end: &str) -> bool
     ensures { IsTrue result ↔ EndsWithPath path.now end.now }
 {
@@ -70,7 +70,7 @@ pub fn ends_with_path(path: &str, end: &str) -> bool
     }
 }
 
-/// Appends the name `level` of a module and `::` to `path`, or nothing if the name is empty.
+/// Appends `level`, the name of a module, and `::` to `path`. Appends nothing if the name is empty.
 fn push_level(path: &mut String, level: &str) -> Result<(), Memory> {
     if !level.is_empty() {
         path.push_str(level)?;
@@ -79,8 +79,8 @@ fn push_level(path: &mut String, level: &str) -> Result<(), Memory> {
     Ok(())
 }
 
-/// Returns the names of the modules whose braces are open at the end of a text, in order. An empty
-/// text represents each open brace that does not begin a module.
+/// Returns the names of the modules whose braces are open at the end of a text, from the outermost
+/// to the innermost module. An empty text represents each open brace that does not begin a module.
 fn levels_of<'t>(alloc: Global, text: &'t str) -> Result<Vec<&'t str>, Memory> {
     let mut levels = Vec::new(alloc);
     let mut rest = text;
@@ -117,8 +117,9 @@ fn words_after<'t>(words: (&'t str, &'t str), word: Word<'t>) -> (&'t str, &'t s
     }
 }
 
-/// Appends the name of a module to `levels` for an opening brace, and removes the last name for a
-/// closing brace. `words` contains the last two lexemes before `word`.
+/// Appends an entry to `levels` if `word` is an opening brace, and removes the last entry if `word`
+/// is a closing brace. The entry is the name of the module whose body the brace begins, or an empty
+/// text for any other brace. `words` contains the last two lexemes before `word`.
 fn note_brace<'t>(
     levels: &mut Vec<&'t str>,
     words: (&'t str, &'t str),

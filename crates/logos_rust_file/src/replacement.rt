@@ -15,8 +15,8 @@ pub struct Replacement {
     pub text: String,
 }
 
-/// Returns the bytes of `text` with `parts` replaced. The parts must be in order and must not
-/// overlap. All bytes between the parts stay unchanged.
+/// Returns the bytes of `text` with `parts` replaced. The parts must be sorted by their spans and
+/// must not overlap. All bytes between the parts stay unchanged.
 ///
 /// # Errors
 ///

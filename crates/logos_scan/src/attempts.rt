@@ -1,4 +1,5 @@
-//! Makes single match attempts. Called by `run` where an entry does not determine the match.
+//! Makes single match attempts. `run` calls `attempted` at an entry that does not determine the
+//! match.
 
 ghost use Rattle.std.specs.Prelude.{◌≤◌, length};
 ghost use Rattle.logos_scan.specs.Views.{IsTaken};
@@ -8,8 +9,7 @@ use logos_hir::leaf::LeafId;
 use logos_machine::machine::walk::{Outcome, attempt};
 use logos_token::token::Span;
 
-/// The result of a match attempt whose match, if any, is not known to be skipped without a
-/// callback.
+/// The result of a match attempt, unless the match is known to be skipped without a callback.
 #[derive(Clone, Copy)]
 pub enum Taken {
     /// A match of this leaf that is a token.
@@ -22,8 +22,8 @@ pub enum Taken {
     Ends,
 }
 
-/// Makes match attempts from `start` on, until the outcome of one is not `Skips`. Returns the
-/// result of this attempt, and the start of the next attempt.
+/// Makes match attempts from `start` on, until the outcome of an attempt is not `Skips`. Returns
+/// the result of this attempt, and the start of the next attempt.
 pub(crate) fn attempted(code: &Code, input: &[u8], start: usize) -> (Taken, usize)
     requires { start ≤ length input.now }
     ensures { IsTaken code.now input.now start result.0 result.1 }

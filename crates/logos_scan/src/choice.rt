@@ -9,8 +9,8 @@ use crate::trial::trial_counts;
 use logos_code::code::Code;
 use std::alloc::{AllocError, Global};
 
-/// The time that a scan saves for each byte, on an average text on which it is faster. All times
-/// are in hundredths of a nanosecond.
+/// The time that a scan saves for each byte of an average text, among the texts on which a scan
+/// takes less time than a lexer. All times are in hundredths of a nanosecond.
 const SAVED: usize = 100;
 
 /// The time for folding the row of a state into newly allocated memory.
@@ -20,8 +20,8 @@ const FOLD: usize = 200_000;
 const TRIAL: usize = 2_000_000;
 
 /// Returns the folded rows of a code if a scan by chunks likely takes less time on the input than a
-/// lexer. Returns `None` if this is unlikely, or if the code has too many states for folded rows.
-/// Any result is correct, since a scan and a lexer find the same items.
+/// lexer. Returns `None` otherwise, or if the code has too many states for folded rows. Any result
+/// is correct, because a scan and a lexer find the same items.
 ///
 /// # Errors
 ///
@@ -47,8 +47,8 @@ pub fn rows_for<'c, 's>(
     }
 }
 
-/// Returns whether the input is too short for a scan to save the time for the folded rows of the
-/// code and for a sample.
+/// Returns whether the input is too short for a scan: whether a scan saves less time than is needed
+/// to fold the rows of the code and to walk over one sample.
 fn is_short(code: &Code, input: &[u8]) -> bool {
     let states = code.parts().states.len();
     SAVED.wrapping_mul(input.len()) < FOLD.wrapping_mul(states).wrapping_add(TRIAL)

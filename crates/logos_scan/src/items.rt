@@ -1,4 +1,5 @@
-//! Returns all items of an input at once, from a scan or from a lexer. Called by `logos_codegen`.
+//! Functions that return all items of an input at once, from a scan or from a lexer. Called by
+//! `logos_codegen`.
 
 ghost use Rattle.std.specs.Prelude.{◌≡◌, map, IfOk};
 ghost use Rattle.logos_scan.specs.Imports.{answers_of, item_of, Runs, TakesMatches};
@@ -12,8 +13,8 @@ use logos_hir::leaf::LeafId;
 use logos_machine::machine::{Item, Lexer};
 use std::alloc::{AllocError, Global};
 
-/// Returns all items of a lexer's input, in order. The lexer must be at the start of the input. The
-/// input is scanned by chunks if a scan likely takes less time than the lexer.
+/// Returns all items of a lexer's input, in the order of the input. The lexer must be at the start
+/// of the input. The input is scanned by chunks if a scan likely takes less time than the lexer.
 ///
 /// # Errors
 ///
@@ -33,7 +34,7 @@ pub fn items<'i, C: Fn(LeafId, &[u8]) -> Action + Drop>(
     }
 }
 
-/// Returns all items of an input, in order, by a scan with the folded rows of a code.
+/// Scans an input with the folded rows of a code, and returns all items in the order of the input.
 ///
 /// # Errors
 ///

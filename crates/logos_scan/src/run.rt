@@ -1,5 +1,5 @@
-//! Scans an input: yields the results of its match attempts, one after another, from the entries of
-//! its chunks. Called by `items`, `logos_items` and `logos_commands`.
+//! Scans an input. A scan yields the results of match attempts, one after another, from the entries
+//! of chunks. Called by `items`, `logos_items` and `logos_commands`.
 
 ghost use Rattle.std.specs.Prelude.{◌≡◌, ◌+◌, ◌<◌, ◌≤◌, length, MatchOption};
 ghost use Rattle.logos_scan.specs.Views.{IsBytes, IsRowStart, ComesTo, answers_of, item_of, EndsItems, YieldsItem, IsChunk, IsFlagged, IsHeld, IsLoaded, IsMarked, IsOver, IsReading, IsReady, IsRun, IsTaken, TakesMatches, start_of, with_chunk};
@@ -48,9 +48,9 @@ pub struct Loaded {
     pub row_start: usize,
 }
 
-/// A scan of an input, with its point in a chunk and the start of the next attempt. The chunk is
-/// stored separately, so that the compiler can keep the scan in registers. The reading and the
-/// chunk with which the scan was made are passed to each call.
+/// A scan of an input: a point in a chunk, and the start of the next attempt. The chunk is stored
+/// separately, so that the compiler can keep the scan in registers. Each call receives the reading
+/// and the chunk with which the scan was made.
 #[derive(Clone, Copy, Drop)]
 pub struct Run {
     pub cursor: ChunkCursor,
@@ -62,7 +62,7 @@ pub struct Run {
     pub low: usize,
 }
 
-/// Does nothing. A call brings into the proof that the elements of a slice of bytes are bytes.
+/// Does nothing. A call adds to the proof the fact that the elements of a slice of bytes are bytes.
 #[inline(always)]
 fn are_bytes(input: &[u8])
     ensures { IsBytes input.now }
@@ -147,8 +147,8 @@ fn restarted(reading: &Reading, run: Run, chunk: &mut ChunkEntries, to: usize) -
 }
 
 /// Returns the scan at the index `from` of the chunk, where a match attempt begins. Steps again
-/// over the bytes from this index on, until a byte leads to the same row as before. The scan must
-/// not have passed the entry at the index.
+/// over the bytes from this index on, until a byte leads to the same row as before. The last walk
+/// must have begun before this index.
 fn repaired_from(reading: &Reading, run: Run, chunk: &mut ChunkEntries, from: usize) -> Run
     requires reading { IsReading reading.now }
     requires chunk { IsChunk reading.now.rows.now reading.now.input.now (with_chunk chunk.old run) }
@@ -296,8 +296,8 @@ impl Run {
     }
 
     /// Returns the next item, or `None` at the end of the input and on every later call. Finds the
-    /// same items as a lexer with the callback `callback`, which is called for each match of a leaf
-    /// that has a callback.
+    /// same items as a lexer with the callback `callback`. Calls `callback` for each match of a
+    /// leaf that has a callback.
     #[inline(always)]
     pub fn next_item<'i, C: Fn(LeafId, &[u8]) -> Action>(
         &mut self,

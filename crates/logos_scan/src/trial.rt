@@ -1,5 +1,5 @@
 //! Walks over samples of an input, to estimate whether a scan by chunks takes less time than a
-//! lexer. Called by `choice` once for each input that is long enough.
+//! lexer. `choice` calls `trial_counts` for each input that is not too short for a scan.
 
 ghost use Rattle.std.specs.Prelude.{◌≡◌, ◌<◌, ◌≤◌, ◌+◌, ◌*◌, length};
 ghost use Rattle.logos_scan.specs.Views.{IsReading};
@@ -13,25 +13,26 @@ use crate::walk::blocks::{BLOCK, BLOCKS, CHUNK, walk_chunk};
 use crate::walk::guess::guess_row_starts;
 use crate::walk::{ENDED, OFFSET_MASK, TOKEN, entry_of};
 
-/// The number of bytes of the input from which one chunk is walked over.
+/// The number of bytes of an input for each chunk that is walked over.
 const SPREAD: usize = 64 * CHUNK;
 
-/// The greatest number of chunks that are walked over.
+/// The maximum number of chunks that are walked over.
 const MOST: usize = 8;
 
-/// The number of bytes of each chunk that are counted, since counting takes longer than the walk.
-/// Only the bytes that are stepped over again are counted in the whole chunk.
+/// The number of bytes that are counted in each chunk. The other bytes are not counted, because
+/// counting takes longer than the walk. Only the bytes that are stepped over again are counted in
+/// the whole chunk.
 const COUNTED: usize = 2 * BLOCK;
 
-/// The cost of each byte, for a scan. All costs are fitted on measured texts, in hundredths of a
-/// nanosecond, and only their ratios matter.
+/// The cost of each byte, for a scan. All costs are fitted to times measured on texts, in
+/// hundredths of a nanosecond. Only the ratios of the costs matter.
 const STEP: usize = 90;
 
 /// The cost of each pending entry, for a scan.
 const PENDING: usize = 270;
 
-/// The cost of each byte that is stepped over again, for a scan. It is a third of the fitted cost,
-/// since the other counts cover only a third of each chunk.
+/// The cost of each byte that is stepped over again, for a scan. This cost is a third of the fitted
+/// cost, because the other counts cover only a third of each chunk.
 const AGAIN: usize = 76;
 
 /// The cost of each attempt that is repeated, for a scan.
@@ -49,36 +50,36 @@ const ENTRY: usize = 131;
 /// The cost of each fast loop, for a lexer.
 const LOOP: usize = 455;
 
-/// The cost of each section that processors likely predict wrong, for a lexer.
+/// The cost of each section that a processor likely predicts wrongly, for a lexer.
 const MISS: usize = 866;
 
-/// The cost of each attempt that is repeated, for a lexer. Such an attempt returns to its last
-/// mark, or ends in an error.
+/// The cost of each attempt that is repeated, for a lexer. Such an attempt returns to the last mark
+/// that it passed, or ends in an error.
 const RETURN: usize = 1_370;
 
-/// The counts of walks over chunks of an input.
+/// The numbers of bytes, matches and other events in walks over chunks of an input.
 #[derive(Clone, Copy, Drop)]
 pub struct TrialCounts {
     /// The number of bytes that were counted.
     pub bytes: usize,
     /// The number of bytes before which a match ends.
     pub ends: usize,
-    /// The number of bytes before which a match ends that is not skipped.
+    /// The number of bytes before which a match that is not skipped ends.
     pub tokens: usize,
     /// The number of bytes that lead to another row within an attempt.
     pub entered: usize,
     /// The number of runs of bytes that do not change the row.
     pub loops: usize,
-    /// The number of sections of attempts that are predicted wrong.
+    /// The number of sections of attempts that are predicted wrongly.
     pub missed: usize,
     /// The number of bytes that need a repeated attempt.
     pub repeated: usize,
-    /// The number of bytes in whole chunks that are stepped over again, because the row of their
-    /// block was guessed wrong.
+    /// The number of bytes in whole chunks that are stepped over again, because the row in which
+    /// their block begins was guessed wrongly.
     pub again: usize,
 }
 
-/// The counts before any walk.
+/// The counts before any walk, which are all 0.
 const NOTHING: TrialCounts = TrialCounts {
     bytes: 0,
     ends: 0,
@@ -90,8 +91,9 @@ const NOTHING: TrialCounts = TrialCounts {
     again: 0,
 };
 
-/// Returns the counts of walks over chunks at regular distances in an input, each from the root on.
-/// All counts are 0 if the input has fewer than two chunks of bytes for each walk.
+/// Walks over chunks at regular distances in an input, each from the root on. Returns the sums of
+/// the counts of these walks. All counts are 0 if the input has fewer than `2 * CHUNK` bytes for
+/// each walk.
 pub fn trial_counts(reading: &Reading) -> TrialCounts
     requires { IsReading reading.now }
 {
@@ -111,8 +113,8 @@ pub fn trial_counts(reading: &Reading) -> TrialCounts
     counts
 }
 
-/// Returns the counts of a walk over one chunk of bytes. The chunk begins after the first line end
-/// among the `CHUNK` bytes from `at` on, or at `at` if these bytes contain no line end.
+/// Returns the counts of a walk over one chunk. The chunk begins after the first line end among the
+/// `CHUNK` bytes from `at` on, or at `at` if these bytes contain no line end.
 fn chunk_counts(reading: &Reading, at: usize, predictor: &mut Predictor) -> TrialCounts
     requires reading { IsReading reading.now }
     requires at { at + 2 * CHUNK ≤ length reading.now.input.now }
@@ -128,8 +130,8 @@ fn chunk_counts(reading: &Reading, at: usize, predictor: &mut Predictor) -> Tria
     }
 }
 
-/// Returns the index after the first line end in `part`, or 0 if `part` has no line end. Few tokens
-/// extend over a line end.
+/// Returns the index after the first line end in `part`, or 0 if `part` has no line end. A match
+/// attempt likely begins at this index, because tokens rarely extend over a line end.
 pub(crate) fn line_start(part: &[u8]) -> usize
     ensures { result ≤ length part.now }
 {
@@ -157,7 +159,8 @@ fn trace_counts(trace: &[u32], predictor: &mut Predictor) -> TrialCounts
     counts
 }
 
-/// Returns the counts of one entry after a section. The counts `bytes` and `again` are 0.
+/// Returns the counts of `entry`, the entry after the section `section`. The counts `bytes` and
+/// `again` are 0.
 #[inline(always)]
 fn entry_counts(section: Section, entry: u32, predictor: &mut Predictor) -> TrialCounts {
     TrialCounts {
@@ -171,8 +174,8 @@ fn entry_counts(section: Section, entry: u32, predictor: &mut Predictor) -> Tria
     }
 }
 
-/// Returns 1 if the section ends before the byte of the entry and is predicted wrong, and otherwise
-/// 0.
+/// Returns 1 if the section ends before the byte of the entry and is predicted wrongly, and
+/// otherwise 0.
 #[inline(always)]
 fn missed(section: Section, entry: u32, predictor: &mut Predictor) -> usize {
     if section.ends_at(entry) {
@@ -199,8 +202,9 @@ fn steps_again(rows: &[u32], text: &[u8], root: usize, trace: &[u32]) -> usize
 }
 
 /// Returns the number of bytes that were stepped over again in the block that begins at `from`. The
-/// number is 0 if `guess` was right. Otherwise it includes the bytes up to the first byte that
-/// leads to the same row from the guessed row as in the walk.
+/// number is 0 if `guess` was right. Otherwise, the bytes up to and including the first byte that
+/// leads to the same row from `guess` as in the walk were stepped over again, or the whole block if
+/// there is no such byte.
 fn block_steps(rows: &[u32], text: &[u8], guess: usize, trace: &[u32], from: usize) -> usize
     requires closed { IsClosed rows.now }
     requires guess { IsRowStart rows.now guess }

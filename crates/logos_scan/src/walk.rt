@@ -1,10 +1,10 @@
 //! Walks over a chunk of bytes with folded rows, in six parallel blocks and without a branch for
 //! each byte, and finds the entries at which attempts end. Called by `run` and `trial`.
 //!
-//! A folded row has an entry for each byte. A row is identified by its row offset, the index of its
-//! first entry. The lowest twenty bits of an entry are the offset of the next row. The two highest
-//! bits of an entry are flags: `ENDED` is set if a match ends before the byte, and `TOKEN` if the
-//! entry is pending, which means that the scan must process it.
+//! A folded row has an entry for each byte. A row is identified by its row offset, which is the
+//! index of its first entry. The lowest twenty bits of an entry are the offset of the next row. The
+//! two highest bits of an entry are flags: `ENDED` is set if a match ends before the byte, and
+//! `TOKEN` is set if the entry is pending, which means that the scan must process the entry.
 
 ghost use Rattle.std.specs.Prelude.{◌≡◌, ◌+◌, ◌<◌, ◌≤◌, length, slice_index, slice_set};
 ghost use Rattle.logos_scan.specs.walk.Imports.{IsClosed, IsRowStart, IsSameBeside, Walked, entry_at, row_start_of};
@@ -24,8 +24,8 @@ pub const ENDED: u32 = 1 << 31;
 /// The flag of a pending entry, which the scan must process.
 pub const TOKEN: u32 = 1 << 30;
 
-/// Returns the entry of a byte in a row. Adds the byte first, because the row offset comes from the
-/// preceding entry and is known last.
+/// Returns the entry of a byte in a row. Adds the byte to the index first, because the row offset
+/// comes from the preceding entry and is known last.
 #[inline(always)]
 pub(crate) fn entry_of(rows: &[u32], byte: u8, row_start: usize) -> u32
     requires { IsRowStart rows.now row_start }
@@ -53,7 +53,7 @@ pub fn step(rows: &[u32], text: &[u8], row_start: usize, trace: &mut [u32], at: 
 }
 
 /// Steps over all bytes of the text, from the row `row_start` on: writes their entries into
-/// `trace`, and returns the row after them.
+/// `trace`, and returns the row after the last byte.
 pub fn walk(rows: &[u32], text: &[u8], row_start: usize, trace: &mut [u32]) -> usize
     requires closed { IsClosed rows.now }
     requires row_start { IsRowStart rows.now row_start }

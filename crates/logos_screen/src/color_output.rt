@@ -1,4 +1,5 @@
-//! An output that counts as a terminal only if colors are allowed. Used by `logos_cli`.
+//! Defines an output that reports itself as a terminal only if colors are allowed. Used by
+//! `logos_cli`.
 
 use crate::screen::allows_colors;
 use std::env::Env;
@@ -14,7 +15,8 @@ pub struct ColorOutput<W> {
 }
 
 impl<W> ColorOutput<W> {
-    /// Returns an output to `writer`. The environment determines whether colors are allowed.
+    /// Returns a `ColorOutput` to `writer`. The environment variables `variables` determine whether
+    /// colors are allowed.
     pub fn new<V: Env>(variables: &V, writer: W) -> ColorOutput<W> {
         ColorOutput {
             writer,

@@ -6,7 +6,7 @@ ghost use Rattle.logos_screen.specs.Views.{IsCutFront, IsFront};
 use logos_page::columns_of;
 use std::alloc::AllocError;
 
-/// The mark at the end of a cut line, which takes one column.
+/// The mark at the end of a cut line. The mark takes one column.
 const CUT: &str = "…";
 
 /// The shown part of a line, and the mark after this part. The mark is empty if the whole line is
@@ -17,8 +17,8 @@ pub(crate) struct ShownLine<'l> {
     pub(crate) mark: &'static str,
 }
 
-/// Appends a text to `block`. If `width` is not `None`, cuts each line to `width` columns, and ends
-/// each line with LF.
+/// Appends a text to `block`. The text is unchanged if `width` is `None`. Otherwise, each line of
+/// the text is cut to `width` columns and ends with LF.
 ///
 /// # Errors
 ///
@@ -41,7 +41,7 @@ fn push_lines(block: &mut Vec<u8>, text: &str, width: Option<usize>) -> Result<(
     Ok(())
 }
 
-/// Appends the shown part of a line to `block`, with its mark and a line end.
+/// Appends the shown part of a line to `block`, followed by the mark of the line and a line end.
 fn push_front(block: &mut Vec<u8>, front: ShownLine<'_>) -> Result<(), AllocError>
     ensures { OnOk result (block.new.items ≡ block.old.items
         ++ (front.entry.text.now ++ (front.entry.mark.now ++ 10 ∷ []))) }
@@ -58,8 +58,9 @@ pub(crate) fn push_end(block: &mut Vec<u8>, mark: &str) -> Result<(), AllocError
     block.extend_from_slice(b"\n")
 }
 
-/// Returns the shown part of a line. This is the whole line if `width` is `None` or the line fits
-/// into `width` columns, and otherwise a prefix with the mark of a cut.
+/// Returns the shown part of a line. If `width` is `None` or the line fits into `width` columns,
+/// this part is the whole line. Otherwise, this part is a prefix of the line, followed by the mark
+/// of a cut.
 pub(crate) fn front_of<'l>(line: &'l str, width: Option<usize>) -> ShownLine<'l>
     ensures { IsFront line.now width result.text.now result.mark.now }
 {
@@ -72,7 +73,7 @@ pub(crate) fn front_of<'l>(line: &'l str, width: Option<usize>) -> ShownLine<'l>
     }
 }
 
-/// Returns the first `end` bytes of a line with the mark of a cut. Returns no bytes with this mark
+/// Returns the first `end` bytes of a line, followed by the mark of a cut. Returns the mark alone
 /// if the line cannot be split at `end`.
 fn cut_front<'l>(line: &'l str, end: usize) -> ShownLine<'l>
     ensures { IsCutFront line.now result.text.now result.mark.now }

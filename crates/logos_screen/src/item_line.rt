@@ -1,4 +1,5 @@
-//! Appends the line of an item with the colors and the width of a screen. Called by `logos_items`.
+//! Formats the line of an item with the colors and the width of a screen. `logos_items` calls
+//! `push_item_line`.
 
 ghost use Rattle.std.specs.Prelude.{◌≡◌, ◌++◌, OnOk};
 ghost use Rattle.logos_screen.specs.Views.{ShowsItem, item_text, painted, part_sequence};
@@ -7,12 +8,12 @@ use crate::fronts::{front_of, push_end};
 use crate::screen::Screen;
 use std::alloc::AllocError;
 
-/// The line of an item, without its end: the location, the variant with the blanks around it, and
-/// the text in quotes.
+/// The line of an item, without the line end: the location, the variant with the blanks around the
+/// variant, and the text in quotes.
 #[derive(Clone, Copy)]
 pub struct ItemLine<'l> {
     pub line: &'l str,
-    /// The length in bytes of the variant with the blanks around it.
+    /// The length in bytes of the variant with the blanks around the variant.
     pub variant: usize,
     pub is_error: bool,
 }
@@ -25,7 +26,7 @@ struct ItemParts<'l> {
     text: &'l str,
 }
 
-/// The kind of a part of an item's line. Each kind has its own style.
+/// The kind of a part of an item's line. The kind determines the style of the part.
 #[derive(Clone, Copy, Debug, PartialEq, Eq)]
 pub(crate) enum ItemPart {
     /// The location: bold and blue, like the frame of a report.
@@ -58,8 +59,8 @@ pub fn push_item_line(
     push_end(block, front.mark)
 }
 
-/// Returns the parts of a line: the location up to the first space, the next `variant` bytes as the
-/// variant, and the rest as the text.
+/// Returns the parts of a line. The location ends before the first space, the next `variant` bytes
+/// are the variant, and the rest of the line is the text.
 fn parts_of<'l>(line: &'l str, variant: usize) -> ItemParts<'l>
     ensures { result.location.now ++ (result.variant.now ++ result.text.now) ≡ line.now }
 {
@@ -81,8 +82,8 @@ fn location_length(line: &str) -> usize {
     }
 }
 
-/// Returns the parts of a text before and after the byte offset `at`. If the text cannot be split
-/// at this offset, the first part is the whole text and the second part is empty.
+/// Returns the parts of `text` before and after the byte offset `at`. If `text` cannot be split at
+/// this offset, the first part is all of `text` and the second part is empty.
 fn split<'l>(text: &'l str, at: usize) -> (&'l str, &'l str)
     ensures { result.0.now ++ result.1.now ≡ text.now }
 {

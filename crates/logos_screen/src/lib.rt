@@ -1,5 +1,5 @@
-//! The screen on which an output is shown: whether it takes colors, and the width to which lines
-//! are cut. Called by `logos_cli`, `logos_items` and `logos_show`.
+//! Adapts an output to the colors and the width of the screen that shows the output. Used by
+//! `logos_cli`, `logos_items` and `logos_show`.
 
 #![tactic(auto)]
 

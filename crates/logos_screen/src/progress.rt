@@ -1,32 +1,33 @@
 //! Shows the progress of a program in a line on standard error. Used by `logos_show`.
 //!
-//! The line has the number of bytes that were written. It is first shown after a second, if
-//! standard error is a terminal and standard output is not. It is cleared before a message and at
-//! the end.
+//! The line contains the number of bytes that were written. The line is shown only if standard
+//! error is a terminal and standard output is not, and first after a second. The line is cleared
+//! before a message and at the end of the program.
 
 use std::cell::Cell;
 use std::io;
 use std::io::{IsTerminal, Write};
 use std::time::{Clock, Duration};
 
-/// The time in milliseconds after which the line is first shown.
+/// The minimum time in milliseconds before the line is first shown.
 const PATIENCE: u64 = 1000;
 
-/// The time in milliseconds after which the line is shown again with the current number.
+/// The minimum time in milliseconds between two updates of the line.
 const PAUSE: u64 = 200;
 
-/// The text that overwrites the line with spaces, and then returns to the beginning of the line.
+/// The text that clears the line: it overwrites the line with spaces, and then moves the cursor to
+/// the beginning of the line.
 const CLEAR: &[u8] = b"\r                                \r";
 
-/// The state of the progress line: whether the line is on the terminal. The outputs of a program
-/// share this state.
+/// A record of whether the progress line is on the terminal. The outputs of a program share this
+/// record.
 #[derive(Drop)]
 pub struct ProgressLine {
     is_shown: Cell<bool>,
 }
 
 impl ProgressLine {
-    /// Returns the state of a line that is not shown.
+    /// Returns the `ProgressLine` of a line that is not shown.
     pub fn new() -> ProgressLine {
         ProgressLine {
             is_shown: Cell::new(false),
@@ -54,8 +55,7 @@ pub struct MessageOutput<'l, E> {
 }
 
 impl<'l, E> MessageOutput<'l, E> {
-    /// Returns an output for messages to standard error. `writer` and `err` are handles to standard
-    /// error.
+    /// Returns a `MessageOutput`. `writer` and `err` must be handles to standard error.
     pub fn new(line: &'l ProgressLine, writer: E, err: E) -> MessageOutput<'l, E> {
         MessageOutput { line, writer, err }
     }
@@ -85,7 +85,8 @@ impl<E: IsTerminal> IsTerminal for MessageOutput<'_, E> {
     }
 }
 
-/// An output to standard output that shows the number of written bytes on standard error.
+/// An output that writes to standard output and shows the number of written bytes on standard
+/// error.
 #[derive(Drop)]
 pub struct CountedOutput<'l, S, O, E> {
     writer: O,
@@ -99,14 +100,14 @@ struct Progress<'l, S, E> {
     line: &'l ProgressLine,
     err: E,
     written: usize,
-    /// The time from which the number is shown next, or `None` if it is not shown again.
+    /// The time from which the number is shown next, or `None` if the number is not shown again.
     due: Option<Duration>,
 }
 
 impl<'l, S: Clock, O: IsTerminal, E: IsTerminal> CountedOutput<'l, S, O, E> {
-    /// Returns an output to `writer`, the standard output, to which no bytes have been written. The
-    /// number of written bytes is shown only if `err` is a terminal, `writer` is not, and the
-    /// system has a clock.
+    /// Returns a `CountedOutput` that has written no bytes. `writer` must be standard output, and
+    /// `err` must be standard error. The number of written bytes is shown only if `err` is a
+    /// terminal, `writer` is not a terminal, and the system has a clock.
     pub fn new(
         system: &'l S,
         line: &'l ProgressLine,
@@ -142,7 +143,7 @@ fn time_in<S: Clock>(system: &S, milliseconds: u64) -> Option<Duration> {
 
 impl<S: Clock, E: Write> Progress<'_, S, E> {
     /// Adds `length` to the number of written bytes, and shows this number if it is due. Ignores
-    /// errors of standard error.
+    /// errors of writing to standard error.
     fn count(&mut self, length: usize) {
         self.written = self.written.saturating_add(length);
         if self.is_due() {
@@ -154,7 +155,7 @@ impl<S: Clock, E: Write> Progress<'_, S, E> {
         }
     }
 
-    /// Returns whether the number of written bytes is to be shown now.
+    /// Returns whether the number of written bytes is due to be shown.
     fn is_due(&self) -> bool {
         let Some(due) = self.due else {
             return false;

@@ -1,4 +1,4 @@
-//! Determines the form in which an output is shown: its colors and its width. Used by
+//! Determines the form in which an output is shown: the colors and the width of the output. Used by
 //! `color_output`, `item_line`, `logos_items` and `logos_show`.
 
 ghost use Rattle.std.specs.Prelude.{◌≡◌};
@@ -7,7 +7,7 @@ ghost use Rattle.logos_screen.specs.Views.{IsScreenOf, is_plain};
 use logos_host::Color;
 use std::env::{Env, FillError};
 
-/// The form in which an output is shown: whether it has colors, and its width.
+/// The form in which an output is shown: whether the output has colors, and the width of its lines.
 #[derive(Clone, Copy, Debug, PartialEq, Eq)]
 pub struct Screen {
     pub is_colored: bool,
@@ -38,8 +38,8 @@ impl Screen {
 }
 
 /// Returns the form of an output. `color` is the condition under which the output has colors.
-/// `is_terminal` states whether the output is a terminal. Only a terminal has a width, the value of
-/// the environment variable `COLUMNS`.
+/// `is_terminal` is `true` if the output is a terminal. The environment variable `COLUMNS`
+/// determines the width of a terminal. Any other output has no width.
 pub fn screen_of<V: Env>(variables: &V, color: Color, is_terminal: bool) -> Screen
     ensures { IsScreenOf color is_terminal result }
 {
@@ -69,8 +69,8 @@ pub fn allows_colors<V: Env>(variables: &V) -> bool {
 /// are ignored.
 const DIGITS: usize = 20;
 
-/// Returns the value of the environment variable `COLUMNS`, or `None` if the variable is not set,
-/// is too long, or is not a positive decimal number.
+/// Returns the value of the environment variable `COLUMNS`. Returns `None` if the variable is not
+/// set, or if its value is longer than `DIGITS` bytes or not a positive decimal number.
 fn width_in<V: Env>(variables: &V) -> Option<usize> {
     let mut value = [0; DIGITS];
     match variables.var("COLUMNS", &mut value) {
@@ -79,8 +79,8 @@ fn width_in<V: Env>(variables: &V) -> Option<usize> {
     }
 }
 
-/// Returns the number that `digits` denote, or `None` if a byte is not a decimal digit, or the
-/// number is 0 or overflows.
+/// Returns the number that `digits` denote. Returns `None` if a byte is not a decimal digit, or if
+/// the number is 0 or overflows.
 fn number_of(digits: &[u8]) -> Option<usize> {
     let mut number: usize = 0;
     for digit in digits {

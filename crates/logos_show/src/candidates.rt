@@ -1,4 +1,4 @@
-//! Selects an enum by its name among the enums of a file that derive `Logos`. Used by `choice`.
+//! Selects, by its name, one of the enums of a file that derive `Logos`. Used by `choice`.
 
 ghost use Rattle.std.specs.Prelude.{◌≢◌, ◌↔◌, All, Contains, IfOk, IsTrue, MatchOption, OnOk};
 ghost use Rattle.logos_show.specs.Views.{AddsCandidate, AreCandidates, EndsWith, EndsWithPath, HasName, HasPath, IsOther, IsSelected, Selects};
@@ -84,7 +84,7 @@ fn selected(candidates: &[Candidate], name: &str) -> Chosen
     }
 }
 
-/// Returns the first candidate whose path is `name`, or `None` if there is none.
+/// Returns the first candidate whose path is `name`, or `None` if no candidate has this path.
 fn with_path<'c>(candidates: &'c [Candidate], name: &str) -> Option<&'c Candidate>
     ensures { MatchOption result (All (λ candidate. ¬ HasPath name.now candidate) candidates.now)
         (λ found. Contains candidates.now found.now × HasPath name.now found.now) }
@@ -97,7 +97,7 @@ fn with_path<'c>(candidates: &'c [Candidate], name: &str) -> Option<&'c Candidat
     None
 }
 
-/// Returns the first candidate whose path ends with `name`, or `None` if there is none.
+/// Returns the first candidate whose path ends with `name`, or `None` if no path ends with `name`.
 fn with_end<'c>(candidates: &'c [Candidate], name: &str) -> Option<&'c Candidate>
     ensures { MatchOption result (All (λ candidate. ¬ EndsWith name.now candidate) candidates.now)
         (λ found. Contains candidates.now found.now × EndsWith name.now found.now) }
@@ -111,7 +111,7 @@ fn with_end<'c>(candidates: &'c [Candidate], name: &str) -> Option<&'c Candidate
 }
 
 /// Returns the first candidate whose path ends with `name` and differs from `path`, or `None` if
-/// there is none.
+/// there is no such candidate.
 fn other_with_end<'c>(candidates: &'c [Candidate], name: &str, path: &str) -> Option<&'c Candidate>
     ensures { MatchOption result
         (All (λ candidate. ¬ IsOther name.now path.now candidate) candidates.now)

@@ -1,5 +1,5 @@
-//! Selects the enum whose lexer is requested among the enums of a file. Used by the modules that
-//! need a lexer.
+//! Selects the enum of a file whose lexer is requested. Used by the modules that answer questions
+//! about a lexer.
 
 ghost use Rattle.std.specs.Prelude.{◌≡◌, ◌↔◌, ℕ, List, IfErr, IfOk, IfSome, IsTrue, None, Some, option_map, string_bytes};
 ghost use Rattle.logos_show.specs.Views.{Fault, Gains, HasName, IsCause, IsChosen, IsChosenIn, IsLexerOf, IsNextChoice, IsNoMisuse, IsPathOf, IsSeveralText, IsUnreadable, Refuses, RefusesBy, chosen_first, first_deriving, help_text, name_requested, name_text, no_lexer_text, other_text, several_text};
@@ -18,8 +18,8 @@ use logos_rust_file::{FoundEnum, enums_in, path_of};
 use std::alloc::{AllocError, Global};
 use std::io::Write;
 
-/// The first two enums with different paths that derive `Logos`, among the enums of a file searched
-/// so far.
+/// The first two enums that derive `Logos` and have different paths, as far as the enums of a file
+/// have been searched.
 #[derive(Clone, Copy)]
 struct Choice {
     /// The first enum that derives `Logos`, or `None` if none was found.
@@ -29,12 +29,12 @@ struct Choice {
     second: Option<FoundEnum>,
 }
 
-/// The enums that a name selects, or all enums that derive `Logos` if no name is given.
+/// The enums that a name selects. If no name is given, these are all enums that derive `Logos`.
 #[derive(Clone, Copy)]
 pub(crate) enum Chosen {
     Nothing,
     One(FoundEnum),
-    /// Several enums, represented by the first one and the first later one with a different path.
+    /// Several enums: the first one, and the first later one with a different path.
     Several(FoundEnum, FoundEnum),
 }
 
@@ -68,8 +68,8 @@ pub(crate) fn lexer_in<'w, E: Write>(
     }
 }
 
-/// Returns the first of two enums and writes a note to standard error if no name is given. Refuses
-/// the file if a name is given.
+/// Returns the first of two enums and writes a note to standard error if no name is given. Returns
+/// `Refused` if a name is given.
 fn one_of<'w, E: Write>(
     task: Task<'w>,
     source: &Source<'_>,
@@ -195,8 +195,8 @@ fn no_lexer_text(alloc: Global, file: &str, name: Option<&str>) -> Result<String
     page.finish()
 }
 
-/// Returns the refusal of a name that selects several enums. `enums` contains two of these enums,
-/// which have different paths. Returns `Memory` if memory runs out.
+/// Returns the refusal of a name that selects several enums. `enums` contains two of these enums.
+/// The two enums have different paths. Returns `Memory` if memory runs out.
 fn several(
     alloc: Global,
     source: &Source<'_>,
@@ -307,8 +307,8 @@ fn first_enum(alloc: Global, source: &Source<'_>, found: &[FoundEnum]) -> Result
     Ok(chosen_of(choice))
 }
 
-/// Returns the enums of a choice: `Nothing` if the choice is empty, `One` if it has only a first
-/// enum, and `Several` otherwise.
+/// Returns the enums of a choice: `Nothing` if the choice is empty, `One` if the choice has only a
+/// first enum, and `Several` otherwise.
 fn chosen_of(choice: Choice) -> Chosen
     ensures { chosen_first result ≡ choice.first }
 {

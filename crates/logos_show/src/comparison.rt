@@ -21,9 +21,12 @@ use std::io::Write;
 ///
 /// # Errors
 ///
-/// Returns `Refused` if a file has no requested enum or the enum has no lexer, `Read` or `NotText`
-/// if the other file cannot be read, `Output` or `Closed` if writing fails, and `Memory` if memory
-/// runs out.
+/// Returns:
+///
+/// - `Refused` if a file has no requested enum or the enum has no lexer.
+/// - `Read` or `NotText` if the other file cannot be read.
+/// - `Output` or `Closed` if writing fails.
+/// - `Memory` if memory runs out.
 pub(crate) fn compare<'w, F: Files, O: Write, E: Write>(
     task: Task<'w>,
     source: &Source<'_>,
@@ -67,8 +70,8 @@ fn compare_sources<'w, O: Write, E: Write>(
     Ok(judgment.agreement)
 }
 
-/// Writes the verdict on the requested lexers of two files. Returns whether the lexers agree, and
-/// the note about them.
+/// Writes the verdict on the requested lexers of two files. Returns the note about the lexers, and
+/// whether the lexers agree.
 fn compare_files<'w, O: Write, E: Write>(
     task: Task<'w>,
     source: &Source<'_>,
@@ -106,8 +109,8 @@ fn named_lexer<'m, 's>(
     }
 }
 
-/// Writes the verdict on the lexer `one` and the requested lexer of the file `source`. Returns
-/// whether the lexers agree, and the note about them.
+/// Writes the verdict on the lexer `one` and the requested lexer of the file `source`. Returns the
+/// note about the lexers, and whether the lexers agree.
 fn compare_to<'w, O: Write, E: Write>(
     task: Task<'w>,
     one: NamedLexer<'_, '_>,

@@ -18,8 +18,11 @@ use std::io::Write;
 ///
 /// # Errors
 ///
-/// Returns `Refused` if the file has no requested enum or the enum has no lexer, `Output` or
-/// `Closed` if writing fails, and `Memory` if memory runs out.
+/// Returns:
+///
+/// - `Refused` if the file has no requested enum or the enum has no lexer.
+/// - `Output` or `Closed` if writing fails.
+/// - `Memory` if memory runs out.
 pub(crate) fn print_diagram<'w, O: Write, E: Write>(
     task: Task<'w>,
     source: &Source<'_>,

@@ -22,8 +22,11 @@ use std::io::Write;
 ///
 /// # Errors
 ///
-/// Returns `Refused` if the file has no requested enum or the enum has no lexer, `Output` or
-/// `Closed` if writing fails, and `Memory` if memory runs out.
+/// Returns:
+///
+/// - `Refused` if the file has no requested enum or the enum has no lexer.
+/// - `Output` or `Closed` if writing fails.
+/// - `Memory` if memory runs out.
 pub(crate) fn yield_inputs<'w, O: Write, E: Write>(
     task: Task<'w>,
     source: &Source<'_>,
@@ -41,8 +44,8 @@ pub(crate) fn yield_inputs<'w, O: Write, E: Write>(
     Ok(Agreement::Same)
 }
 
-/// Writes the first `most` inputs for the requested lexer of a file, and returns the note about
-/// these inputs.
+/// Writes the first `most` of the inputs that together take all edges of the graph of a file's
+/// requested lexer. Returns the note about these inputs.
 fn inputs_by_file<'w, O: Write, E: Write>(
     task: Task<'w>,
     source: &Source<'_>,
@@ -63,8 +66,8 @@ fn inputs_by_file<'w, O: Write, E: Write>(
     }
 }
 
-/// Writes the first `most` inputs for the lexer with the graph `graph`, as JSON if `is_json` is
-/// `true` and as text otherwise. Returns the note about these inputs.
+/// Writes the first `most` of the inputs that together take all edges of `graph`: as JSON if
+/// `is_json` is `true`, and as text otherwise. Returns the note about these inputs.
 fn inputs_by_graph<O: Write>(
     alloc: Global,
     graph: &Graph<'_>,

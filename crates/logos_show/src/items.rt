@@ -20,9 +20,13 @@ use std::time::Clock;
 ///
 /// # Errors
 ///
-/// Returns `Read` if the input cannot be read, `NotUtf8` if the lexer reads UTF-8 and the input is
-/// not UTF-8, `Refused` if the file has no requested enum or the enum has no lexer, `Output` or
-/// `Closed` if writing fails, and `Memory` if memory runs out.
+/// Returns:
+///
+/// - `Read` if the input cannot be read.
+/// - `NotUtf8` if the lexer reads UTF-8 and the input is not UTF-8.
+/// - `Refused` if the file has no requested enum or the enum has no lexer.
+/// - `Output` or `Closed` if writing fails.
+/// - `Memory` if memory runs out.
 pub(crate) fn lex<'w, F: Files, C: Clock, O: Write, E: Write>(
     task: Task<'w>,
     source: &Source<'_>,
@@ -37,8 +41,8 @@ pub(crate) fn lex<'w, F: Files, C: Clock, O: Write, E: Write>(
     lex_by_file(task, source, &bytes, clock, err, out)
 }
 
-/// Returns the path of the input that a question for items names, or an empty path for any other
-/// question.
+/// Returns the path of the input if the question requests the items of an input, and an empty path
+/// otherwise.
 fn input_of<'w>(question: Question<'w>) -> &'w str {
     match question {
         Question::Items(input) => input,

@@ -1,6 +1,6 @@
-//! Defines the code shape of shown lexers, and returns the part of a file that begins at an enum.
-//! Used by `comparison`, `diagrams`, `inputs`, `items`, `matches`, `page_files`, `pages` and
-//! `stream`.
+//! Contains the code shape of shown lexers, and a function that finds the part of a file that
+//! begins at an enum. Used by `comparison`, `diagrams`, `inputs`, `items`, `matches`, `page_files`,
+//! `pages` and `stream`.
 
 use logos_codegen::generator::Config;
 use logos_report::{Part, Source};

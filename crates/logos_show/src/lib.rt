@@ -1,4 +1,5 @@
-//! The program `logos_show`: it shows the lexers of a Rust file, and lexes other files with them.
+//! Runs `logos_show`, a program that shows the lexers of a Rust file and lexes other files with
+//! these lexers.
 
 #![tactic(auto)]
 
@@ -24,7 +25,7 @@ use logos_screen::{CountedOutput, MessageOutput, ProgressLine};
 use program::run_with;
 
 /// Runs `logos_show` and returns the exit status. `arguments` contains the arguments of the
-/// process, or the failure to read them.
+/// process, or the failure to read the arguments.
 pub fn run_logos_show(rt: &HostRuntime, arguments: Result<Vec<String>, Failure<'static>>) -> u8
     requires { IfErr arguments (λ failure. (status_of failure ≡ 2) ⊎ (status_of failure ≡ 3)) }
     ensures usage { IfOk arguments.entry (λ passed.

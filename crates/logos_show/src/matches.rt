@@ -1,4 +1,4 @@
-//! Prints the matches that start at a point of an input. Used by `program` for `--at`.
+//! Prints the matches that start at a location of an input. Used by `program` for `--at`.
 
 ghost use Rattle.std.specs.Prelude.{◌≡◌, IfErr, IfOk, OnOk};
 ghost use Rattle.logos_show.specs.Views.{AllStart, IsBytes, IsGraphOf, IsNoMisuse, PrintsMatchesAs, Reads, ShowsMatchesOf, order_value, rules_of};
@@ -15,7 +15,7 @@ use logos_report::Source;
 use std::alloc::Global;
 use std::io::Write;
 
-/// A location in the file at the path `path`.
+/// The path of an input, and a location in this input.
 #[derive(Clone, Copy)]
 pub(crate) struct FilePoint<'w> {
     pub(crate) path: &'w str,
@@ -27,9 +27,13 @@ pub(crate) struct FilePoint<'w> {
 ///
 /// # Errors
 ///
-/// Returns `Read` if the input cannot be read, `Refused` if the input does not have the point, the
-/// file has no requested enum or the enum has no lexer, `Output` or `Closed` if writing fails, and
-/// `Memory` if memory runs out.
+/// Returns:
+///
+/// - `Read` if the input cannot be read.
+/// - `Refused` if the input does not have the point, the file has no requested enum, or the enum
+///   has no lexer.
+/// - `Output` or `Closed` if writing fails.
+/// - `Memory` if memory runs out.
 pub(crate) fn show_matches<'w, F: Files, O: Write, E: Write>(
     task: Task<'w>,
     source: &Source<'_>,

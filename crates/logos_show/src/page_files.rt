@@ -16,7 +16,7 @@ use logos_report::Source;
 use logos_rust_file::FoundEnum;
 use std::io::Write;
 
-/// The path of a page, and the path of the input shown on the page, if there is one. A page with
+/// The path of a page, and the path of the input that the page shows, if there is one. A page with
 /// the path `-` is written to standard output.
 #[derive(Clone, Copy)]
 pub(crate) struct PageOrder<'w> {
@@ -25,13 +25,17 @@ pub(crate) struct PageOrder<'w> {
 }
 
 /// Writes the page of the requested lexer of a file to the path of `order`, or to `out` if the path
-/// is `-`. A file at the path is written whole or not at all.
+/// is `-`. A file at the path is written entirely or not at all.
 ///
 /// # Errors
 ///
-/// Returns `Read` if the input cannot be read, `NotUtf8` if the lexer reads UTF-8 and the input is
-/// not UTF-8, `Refused` if the file has no requested enum or the enum has no lexer, `Write`,
-/// `Output` or `Closed` if writing fails, and `Memory` if memory runs out.
+/// Returns:
+///
+/// - `Read` if the input cannot be read.
+/// - `NotUtf8` if the lexer reads UTF-8 and the input is not UTF-8.
+/// - `Refused` if the file has no requested enum or the enum has no lexer.
+/// - `Write`, `Output` or `Closed` if writing fails.
+/// - `Memory` if memory runs out.
 pub(crate) fn write_page<'w, F: Files, O: Write, E: Write>(
     task: Task<'w>,
     source: &Source<'_>,
@@ -78,8 +82,8 @@ fn page_by_file<'w, E: Write>(
     }
 }
 
-/// Returns the page of the lexer `made` of the enum `one`, with the text of `input` if there is an
-/// input.
+/// Returns the page of the lexer `made` from the enum `one`, with the text of `input` if there is
+/// an input.
 fn page_by_lexer(
     task: Task<'_>,
     source: &Source<'_>,

@@ -25,7 +25,8 @@ use logos_warnings::Origin;
 use std::alloc::Global;
 use std::mem;
 
-/// The output for a file: the tables, examples or records of its lexers, and its warnings.
+/// The output for a file: the tables, examples or records of its lexers, and the warnings of the
+/// file.
 #[derive(Drop)]
 pub(crate) struct Shown {
     /// The tables or the examples of the lexers of the file. Empty if the form is JSON.
@@ -44,7 +45,7 @@ pub(crate) struct PageStyle {
     pub(crate) form: Form,
 }
 
-/// The output that is collected for a file while its enums are read in turn.
+/// The output for the enums of a file that have been read so far.
 #[derive(Drop)]
 struct Pages {
     tables: Page,
@@ -57,8 +58,11 @@ struct Pages {
 ///
 /// # Errors
 ///
-/// Returns `Refused` with the faults of the file, with the faults of the first enum that has any,
-/// or with the warnings if warnings are denied. Returns `Memory` if memory runs out.
+/// Returns `Memory` if memory runs out. Returns `Refused` with one of:
+///
+/// - The faults of the file.
+/// - The faults of the first enum that has a fault.
+/// - The warnings if warnings are denied.
 pub(crate) fn shown_of(
     alloc: Global,
     source: &Source<'_>,
@@ -79,8 +83,8 @@ pub(crate) fn shown_of(
     shown_by(source, pages, !has_lexer(&file.found))
 }
 
-/// Returns the output for the enums in `found`, or for the enums among them that `name` selects.
-/// `lines` is the index of the lines of the file.
+/// Returns the output for the enums in `found`, or only for those that `name` selects if `name` is
+/// not `None`. `lines` is the index of the lines of the file.
 fn pages_of<'f, 's>(
     source: &'f Source<'s>,
     lines: &'f LineIndex<'s>,
@@ -103,8 +107,8 @@ fn pages_of<'f, 's>(
     Ok(pages)
 }
 
-/// Returns the finished output for a file. `is_missing` is `true` if no enum of the file derives
-/// `Logos`. Refuses the file if warnings are denied and there are warnings.
+/// Returns the finished output for a file, or `Refused` if warnings are denied and there are
+/// warnings. `is_missing` is `true` if no enum of the file derives `Logos`.
 fn shown_by(source: &Source<'_>, pages: Pages, is_missing: bool) -> Result<Shown, Failure<'static>>
     ensures { IfErr result IsNoMisuse }
 {
@@ -159,8 +163,8 @@ fn push_named(
     Ok(())
 }
 
-/// Appends the output for an enum to `pages`: its lexer if `derives` is `true`, and the warnings
-/// about its text otherwise.
+/// Appends the output for an enum to `pages`. If `derives` is `true`, the output shows the lexer of
+/// the enum. Otherwise, the output consists of the warnings about the text of the enum.
 fn push_enum(
     alloc: Global,
     pages: &mut Pages,
@@ -176,8 +180,8 @@ fn push_enum(
     Ok(())
 }
 
-/// Appends the output for an enum that derives `Logos` to `pages`. Returns the refusal of the enum
-/// if it has no lexer.
+/// Appends the output for an enum that derives `Logos` to `pages`. If the enum has no lexer,
+/// returns the refusal of the enum.
 fn push_lexer(
     alloc: Global,
     pages: &mut Pages,
@@ -210,8 +214,8 @@ fn known_after(
     })
 }
 
-/// Appends the leaves or the examples of the lexer `made` to `pages`, and the warnings about its
-/// enum and its leaves.
+/// Appends the leaves or the examples of the lexer `made` to `pages`, and also the warnings about
+/// the enum and the leaves of the lexer.
 fn push_made(
     alloc: Global,
     pages: &mut Pages,

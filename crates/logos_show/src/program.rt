@@ -1,4 +1,4 @@
-//! Runs the program with its arguments, and returns the exit status. Used by `run_logos_show`.
+//! Runs `logos_show` with its arguments. `run_logos_show` calls `run_with`.
 
 ghost use Rattle.std.specs.Prelude.{◌≡◌, ◌≤◌, ◌↔◌, ◌⊎◌, None, IfErr, IfOk, IfSome, map, string_bytes};
 ghost use Rattle.logos_show.specs.Views.{Answers, AnswersAbout, AnswersOrExpects, Expects, IsFulfilled, IsNoMisuse, expected_in, is_json, order_value, question_value, request_value, requested, status_of};
@@ -90,10 +90,15 @@ pub(crate) fn run_with<
     }
 }
 
-/// Runs the program, and returns the exit status: 0 if the request is fulfilled, 1 if the request
-/// is refused or a comparison finds a difference, 2 if the arguments are invalid, and 3 if a file,
-/// an output or memory fails. The messages of failures and the warnings are written to standard
-/// error.
+/// Runs the program and returns the exit status. Writes the messages of failures and the warnings
+/// to standard error.
+///
+/// The exit status is:
+///
+/// - 0 if the request is fulfilled.
+/// - 1 if the request is refused or a comparison finds a difference.
+/// - 2 if the arguments are invalid.
+/// - 3 for any other failure.
 pub(crate) fn run<
     F: ComparableFiles,
     C: Clock + StandardInput + Env,
@@ -178,7 +183,8 @@ fn carry_out<
 }
 
 /// Returns the settings for the messages of an order. `is_terminal` is `true` if messages are
-/// written to a terminal. A terminal has colors unless `variables` forbid them.
+/// written to a terminal. Messages on a terminal have colors unless the environment variables
+/// forbid colors.
 fn showing_of<V: Env>(
     alloc: Global,
     order: ShowOrder<'_>,
@@ -194,8 +200,8 @@ fn showing_of<V: Env>(
     }
 }
 
-/// Returns `Same` if `done` succeeded, and the failure otherwise. Used for requests that compare
-/// nothing.
+/// Returns `Same` if `done` is a success, and the failure in `done` otherwise. Used for requests
+/// that compare nothing.
 fn as_same<'w>(done: Result<(), Failure<'w>>) -> Result<Agreement, Failure<'w>>
     requires { IfErr done IsNoMisuse }
     ensures failed { IfErr result IsNoMisuse }
@@ -207,9 +213,9 @@ fn as_same<'w>(done: Result<(), Failure<'w>>) -> Result<Agreement, Failure<'w>>
     }
 }
 
-/// Answers the question about the lexers of a file. With the option `--expect`, compares the answer
-/// with the stored answer that the option names instead. Returns the outcome of the comparison, or
-/// `Same` if nothing is compared.
+/// Answers the question about the lexers of a file. With the option `--expect`, does not print the
+/// answer but compares it with the stored answer that the option names. Returns the outcome of the
+/// comparison, or `Same` if nothing is compared.
 fn answer_or_compare<'w, F: Files, C: Clock + StandardInput, O: Write, E: Write>(
     task: Task<'w>,
     files: &mut F,
@@ -229,7 +235,7 @@ fn answer_or_compare<'w, F: Files, C: Clock + StandardInput, O: Write, E: Write>
 }
 
 /// Compares the answer to the question about the lexers of a file with the bytes stored at `path`.
-/// Writes the outcome to `out` and returns it.
+/// Writes the outcome of the comparison to `out`, and returns this outcome.
 fn expect<'w, F: Files, C: Clock + StandardInput, O: Write, E: Write>(
     task: Task<'w>,
     path: &'w str,
@@ -309,8 +315,8 @@ fn answer_about<'w, F: Files, C: Clock + StandardInput, O: Write, E: Write>(
     }
 }
 
-/// Writes the items of the input that the question names. Items of standard input are written as
-/// soon as they are found, unless they are written as JSON.
+/// Writes the items of the input that the question names. If the input is standard input and the
+/// items are not written as JSON, writes each item as soon as the item is found.
 fn lex_any<'w, F: Files, C: Clock + StandardInput, O: Write, E: Write>(
     task: Task<'w>,
     source: &Source<'_>,
@@ -329,8 +335,8 @@ fn lex_any<'w, F: Files, C: Clock + StandardInput, O: Write, E: Write>(
     }
 }
 
-/// Writes the tables or the examples of the lexers of a file, and the warnings of the file to
-/// standard error.
+/// Writes the tables or the examples of the lexers of a file to `out`, and the warnings of the file
+/// to standard error.
 fn show<'w, O: Write, E: Write>(
     task: Task<'w>,
     source: &Source<'_>,

@@ -1,5 +1,6 @@
-//! Returns the texts of enums and the refusals of files, and writes notes. Used by most modules of
-//! this crate.
+//! Contains functions that find the texts of enums, create the refusals of files, and write notes.
+//! Used by `choice`, `comparison`, `diagrams`, `inputs`, `items`, `matches`, `page_files`, `pages`,
+//! `program` and `stream`.
 
 ghost use Rattle.std.specs.Prelude.{IfErr};
 ghost use Rattle.logos_show.specs.Views.{IsNoMisuse, IsPartAt, IsRefusal};
@@ -37,8 +38,9 @@ pub(crate) fn text_of<'t>(source: &Source<'t>, found: FoundEnum) -> &'t str
     slice(source.text(), found.span)
 }
 
-/// Returns the refusal of a part of a file, with its faults. If an enum begins at the start of the
-/// part, the clues and the warnings of the enum are added. Returns `Memory` if memory runs out.
+/// Returns the refusal of a part of a file, with the faults of this part. If an enum begins at the
+/// start of the part, adds the clues and the warnings of the enum. Returns `Memory` if memory runs
+/// out.
 pub(crate) fn refused(
     alloc: Global,
     part: Part<'_, '_>,
@@ -67,9 +69,9 @@ fn known_of(alloc: Global, part: Part<'_, '_>) -> Result<Explained, Memory> {
     })
 }
 
-/// Returns the refusal of a part of a file, with its faults and with the clues and the warnings of
-/// `known`. The spans of the warnings are relative to the start of the file. Returns `Memory` if
-/// memory runs out.
+/// Returns the refusal of a part of a file, with the faults of this part, and with the clues and
+/// the warnings of `known`. The spans of the warnings are relative to the start of the file.
+/// Returns `Memory` if memory runs out.
 pub(crate) fn refused_with(
     part: Part<'_, '_>,
     showing: Showing,
@@ -94,8 +96,8 @@ pub(crate) fn write_note<E: Write>(err: &mut E, note: &[u8]) {
     let _ = err.flush();
 }
 
-/// Returns the messages about the faults `errors`, as text or as JSON, with the warnings of `known`
-/// before them.
+/// Returns the messages about the warnings of `known`, followed by the messages about the faults
+/// `errors`. The messages are text or JSON.
 fn refusal_text(
     part: Part<'_, '_>,
     showing: Showing,

@@ -1,4 +1,5 @@
-//! Prints the items of standard input, one on each line, as they are found. Used by `program`.
+//! Prints each item of standard input on a line of its own as soon as the item is found. Used by
+//! `program`.
 
 ghost use Rattle.std.specs.Prelude.{IfErr};
 ghost use Rattle.logos_show.specs.Imports.{IsNoMisuse};

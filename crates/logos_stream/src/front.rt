@@ -1,4 +1,4 @@
-//! Finds the first event in some bytes of an input. Called by `Stream::next`.
+//! Finds the first event in consecutive bytes of an input. Called by `Stream::next`.
 
 ghost use Rattle.std.specs.Prelude.{◌≡◌, IsTrue, IsUtf8};
 ghost use Rattle.logos_stream.specs.Views.{answers_of, item_of, IsFront, IsWithout, TakesMatches};
@@ -9,15 +9,15 @@ use logos_code::code::Code;
 use logos_hir::leaf::LeafId;
 use logos_machine::machine::{Item, Lexer, Within};
 
-/// The first event in some bytes.
+/// The first event in consecutive bytes of an input.
 #[derive(Clone, Copy)]
 pub(crate) enum Front {
-    /// An item, possibly after matches without items. Its span is relative to the start of the
-    /// bytes.
+    /// An item, possibly after matches without items. The span of the item is relative to the start
+    /// of the bytes.
     Item(StreamItem),
-    /// No item up to this offset. The next item depends on the bytes that follow.
+    /// No item before this offset. The next item depends on the bytes that follow.
     Waits(usize),
-    /// No item up to the end of the bytes, where the input ends.
+    /// No item before the end of the bytes, which is the end of the input.
     Ends,
 }
 

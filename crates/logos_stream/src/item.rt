@@ -1,4 +1,4 @@
-//! Events and items of a stream, as `Stream::next` returns them. Used by `stream` and
+//! Represents the events and the items that `Stream::next` returns. Used by `stream` and
 //! `logos_items`.
 
 ghost use Rattle.std.specs.Prelude.{◌≡◌, ◌+◌, ◌<◌, ◌^◌, List, ℕ};
@@ -13,8 +13,8 @@ use logos_token::token::Span;
 pub enum StreamItem {
     /// A match of `leaf`.
     Token { leaf: LeafId, span: Span },
-    /// An error: bytes that no leaf matches if `leaf` is `None`, and otherwise a match of `leaf`
-    /// for which the callback returned `Error`.
+    /// An error. If `leaf` is `None`, no leaf matches the bytes at the span. Otherwise, the bytes
+    /// are a match of `leaf` for which the callback returned `Error`.
     Error { leaf: Option<LeafId>, span: Span },
 }
 

@@ -1,4 +1,4 @@
-//! Collects all items of a stream in one call of `Stream::items`. Called by users' code.
+//! `Stream::items` collects all items of a stream in one call. Part of the public interface.
 
 ghost use Rattle.std.specs.Prelude.{◌<◌, IfOk, OnOk};
 ghost use Rattle.logos_stream.specs.Views.{answers_of, unread_length, AreLeft, KeepsCode, MayRead, Steps, TakesMatches};
@@ -12,14 +12,18 @@ use std::io;
 use std::io::{ErrorKind, Read};
 
 impl<'c, 's, R: Read + Drop, C: Fn(LeafId, &[u8]) -> Action + Copy> Stream<'c, 's, R, C> {
-    /// Reads to the end of the stream, and returns the remaining items in order, with their spans
-    /// in the stream.
+    /// Reads to the end of the stream, and returns the remaining items in ascending order of their
+    /// offsets, with their spans in the stream.
     ///
     /// # Errors
     ///
-    /// Returns the error of the reader if reading fails, except that an interrupted read is
-    /// repeated. Returns `InvalidData` if `next` returns `TooLong` or `NotUtf8`, `OutOfMemory` if
-    /// memory runs out, and `TimedOut` after 2^64 - 1 items and reads together.
+    /// Returns:
+    ///
+    /// - The error of the reader if reading fails. An interrupted read is repeated instead.
+    /// - An error of the kind `InvalidData` if `next` returns `TooLong` or `NotUtf8`.
+    /// - An error of the kind `OutOfMemory` if memory runs out.
+    /// - An error of the kind `TimedOut` after 2^64 - 1 steps, each of which adds an item or reads
+    ///   once.
     pub fn items(self, alloc: Global) -> io::Result<Vec<StreamItem>>
         requires { TakesMatches C.Fn self.code self.callback }
         ensures { IfOk result (λ items. AreLeft R.remaining self.entry.code

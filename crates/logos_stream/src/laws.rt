@@ -1,5 +1,5 @@
-//! Laws of the definitions. The contract of each function is a law. A proof uses a law by calling
-//! its function, which does nothing.
+//! Laws of streams. The contract of each function is a law. A proof uses a law by calling the
+//! function, which does nothing.
 
 ghost use Rattle.logos_stream.specs.Views.{answers_of, AllAreOfTheWhole, StreamsAreOfTheWhole};
 
@@ -13,8 +13,8 @@ pub fn streams_are_of_the_whole<R: Read, C: Fn(LeafId, &[u8]) -> Action>(_reader
     ensures { StreamsAreOfTheWhole R.remaining (answers_of C.Fn callback.now) }
 {}
 
-/// The items from `Stream::items` are the items of a run on all bytes of its reader if the contract
-/// of the reader determines these bytes.
+/// The items that `Stream::items` returns are the items of a run on all bytes of the stream's
+/// reader if the contract of the reader determines these bytes.
 pub fn all_items_are_of_the_whole<R: Read, C: Fn(LeafId, &[u8]) -> Action>(
     _reader: &R,
     callback: &C,

@@ -1,4 +1,5 @@
-//! Lexes an input of any length while it is read. Used by `logos_items` and users' code.
+//! Lexes an input of any length while reading the input. Used by `logos_items`, and part of the
+//! public interface.
 
 #![tactic(auto)]
 

@@ -1,5 +1,5 @@
 //! Reads an input in parts: only the bytes that were read and not yet passed are in memory. Used by
-//! `window`, which holds one `Parts` for each stream.
+//! `window`, where each `Window` contains a `Parts`.
 
 ghost use Rattle.std.specs.Prelude.{◌≡◌, ◌+◌, ◌<◌, ◌≤◌, [], length, take, false, IfOk, OnErr, MatchBool, min};
 ghost use Rattle.logos_stream.specs.parts.Imports.{ReadsAfter, Reads, Stays, without};
@@ -86,8 +86,8 @@ impl<R: Read + Drop> Parts<R> {
         self.before
     }
 
-    /// Returns whether the part is the last one: whether the last successful call of `read` read no
-    /// bytes.
+    /// Returns whether the part is the last part of the input, that is, whether the last successful
+    /// call of `read` read no bytes.
     pub fn is_last(&self) -> bool
         ensures { result ≡ self.now.is_over }
     {
@@ -103,8 +103,8 @@ impl<R: Read + Drop> Parts<R> {
         self.held == self.buffer.len()
     }
 
-    /// Passes the first `bytes` bytes of the part. They are removed from memory, and `before`
-    /// increases by their number, saturating at `u64::MAX`.
+    /// Passes the first `bytes` bytes of the part: removes these bytes from memory, and increases
+    /// `before` by `bytes`, saturating at `u64::MAX`. The part must have at least `bytes` bytes.
     pub fn pass(&mut self, bytes: usize)
         requires { bytes ≤ length self.old.part }
         ensures { self.new ≡ without bytes self.old }

@@ -1,4 +1,4 @@
-//! A stream, which lexes the bytes of a reader. Used by `items` and `logos_items`.
+//! Defines `Stream`, a lexer of the bytes of a reader. Used by `items` and `logos_items`.
 
 ghost use Rattle.std.specs.Prelude.{◌≡◌, ◌<◌, IfOk, OnErr};
 ghost use Rattle.logos_stream.specs.Views.{answers_of, at_start, unread_length, DoesNext, KeepsCode, ReadsOn, StaysUnread, TakesMatches};
@@ -14,11 +14,11 @@ use std::io;
 use std::io::Read;
 use std::marker::Model;
 
-/// A lexer that returns the items of a reader's bytes while it reads them. Offsets and lengths
-/// count bytes.
+/// A lexer that reads bytes from a reader, and returns the items in these bytes before all bytes
+/// have been read. Offsets and lengths count bytes.
 ///
 /// The number of bytes in memory is at most the bound, regardless of the length of the stream. In
-/// UTF-8 mode the bytes are validated as they are read.
+/// UTF-8 mode, the bytes are validated as they are read.
 ///
 /// ```text
 /// let mut stream = Stream::new(alloc, &code, reader, bound, callback)?;
@@ -76,8 +76,8 @@ impl<'c, 's, R: Read + Drop, C: Fn(LeafId, &[u8]) -> Action + Copy> Stream<'c, '
     }
 
     /// Returns the next event. An item is returned only if it does not depend on the bytes that
-    /// follow. Any other event is returned again by each call until `read` has read bytes or
-    /// reached the end.
+    /// follow the bytes in memory. Any other event is returned again by each call until `read` has
+    /// read bytes or reached the end.
     pub fn next(&mut self) -> Streamed
         requires { TakesMatches C.Fn self.old.code self.old.callback }
         ensures keeps { KeepsCode self.old self.new }
@@ -112,9 +112,9 @@ impl<'c, 's, R: Read + Drop, C: Fn(LeafId, &[u8]) -> Action + Copy> Stream<'c, '
         self.window.read()
     }
 
-    /// Returns the bytes that the last call of `next` passed before the item that it returned, or
-    /// all bytes that it passed if it returned another event. The next read from the reader drops
-    /// these bytes.
+    /// Returns the bytes that the last call of `next` passed before the returned item, or all bytes
+    /// that the call passed if it returned another event. The next read from the reader drops these
+    /// bytes.
     pub fn skipped(&self) -> &[u8]
         ensures { result.now ≡ self.now.window.skipped }
     {
@@ -122,7 +122,7 @@ impl<'c, 's, R: Read + Drop, C: Fn(LeafId, &[u8]) -> Action + Copy> Stream<'c, '
     }
 
     /// Returns the bytes at the span of the item that the last call of `next` returned, or no bytes
-    /// if it returned another event. The next read from the reader drops these bytes.
+    /// if the call returned another event. The next read from the reader drops these bytes.
     pub fn slice(&self) -> &[u8]
         ensures { result.now ≡ self.now.window.slice }
     {

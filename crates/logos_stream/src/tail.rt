@@ -3,7 +3,8 @@
 ghost use Rattle.std.specs.Prelude.{◌≡◌, ◌≤◌, ◌↔◌, length, false, IsTrue, IsCharBoundary};
 ghost use Rattle.logos_stream.specs.Views.{IsTail};
 
-/// The lexable prefix of some bytes that were read, and whether the bytes after it are invalid.
+/// The length of the lexable prefix of the bytes that were read, and a flag for invalid bytes after
+/// the prefix.
 #[derive(Clone, Copy)]
 pub(crate) struct Tail {
     /// The length of the lexable prefix in bytes: all bytes, or in UTF-8 mode the longest prefix
@@ -31,7 +32,7 @@ pub(crate) fn tail_of(is_utf8: bool, bytes: &[u8]) -> Tail
     }
 }
 
-/// Returns the tail of `bytes`, which are all lexable.
+/// Returns the tail of `bytes`, all of which must be lexable.
 fn whole(bytes: &[u8]) -> Tail
     ensures { result ≡ record { valid = length bytes.now; is_at_fault = false } }
 {

@@ -1,5 +1,5 @@
-//! The bytes of a stream that are in memory, and the offset at which its next match attempt begins.
-//! Used by `stream`.
+//! Defines `Window`, which contains the bytes of a stream that are in memory, and the offset at
+//! which the next match attempt begins. Used by `stream`.
 
 ghost use Rattle.std.specs.Prelude.{◌≡◌, ◌*◌, ◌<◌, ◌≤◌, [], drop, length, false, slice_range, true, IfOk, OnErr, MatchBool, IsTrue, IsUtf8, IsCharBoundary};
 ghost use Rattle.logos_stream.specs.Views.{end_of, nothing_read, start_of, unread_length, Finishes, Yields, GoesPast, IsPutOff, IsTorn, ReadsOn, StaysUnread, Waits};
@@ -12,9 +12,9 @@ use std::io;
 use std::io::Read;
 use std::marker::Model;
 
-/// The maximum number of undecided bytes that are lexed again after each read. If there are more,
-/// they are lexed again only once their number has doubled, so that the time stays linear in the
-/// length of the stream.
+/// The maximum number of undecided bytes that are lexed again after each read. A larger number of
+/// undecided bytes must double before the bytes are lexed again, so that the time stays linear in
+/// the length of the stream.
 const SHORT: usize = 4096;
 
 /// The bytes of a stream that are in memory. A move passes bytes, with or without an item. Offsets
@@ -36,7 +36,7 @@ pub(crate) struct Window<R> {
     /// The offset in the stream at which the next match attempt begins.
     offset: usize,
     bound: usize,
-    /// The number of bytes that must be in memory after `at` before the next match attempt.
+    /// The number of bytes after `at` that must be in memory before the next match attempt.
     wanted: usize,
 }
 
@@ -65,8 +65,8 @@ impl<R> Model for Window<R> {
 }
 
 impl<R: Read + Drop> Window<R> {
-    /// Returns the window on the stream of a reader, before anything is read. The stream is text if
-    /// `is_utf8` is `true`.
+    /// Returns the window on the stream of a reader, before anything is read. If `is_utf8` is
+    /// `true`, the bytes of the stream are validated as UTF-8.
     ///
     /// # Errors
     ///
@@ -121,8 +121,8 @@ impl<R: Read + Drop> Window<R> {
         Ok(())
     }
 
-    /// Returns the bytes that the last move passed before its item, or all bytes that it passed if
-    /// it has no item.
+    /// Returns the bytes that the last move passed before its item, or all bytes that the move
+    /// passed if the move has no item.
     pub(crate) fn skipped(&self) -> &[u8]
         ensures { result.now ≡ self.now.skipped }
     {
@@ -150,7 +150,7 @@ impl<R: Read + Drop> Window<R> {
         self.is_last
     }
 
-    /// Returns the lexable bytes after the last move.
+    /// Returns the lexable bytes that no move has passed.
     pub(crate) fn lexed(&self) -> &[u8]
         ensures bytes { result.now ≡ self.now.lexed }
         ensures text { IsTrue self.now.utf8 → IsUtf8 self.now.lexed }
@@ -171,15 +171,15 @@ impl<R: Read + Drop> Window<R> {
         self.unread() < self.wanted
     }
 
-    /// Returns the number of bytes in memory after the last move.
+    /// Returns the number of bytes in memory that no move has passed.
     fn unread(&self) -> usize
         ensures { result ≡ unread_length self.now }
     {
         self.parts.part().len() - self.at
     }
 
-    /// Passes an item that was found in the lexable bytes, and returns it with its span in the
-    /// stream. Returns `NotUtf8`, and passes nothing, if the item ends inside a character.
+    /// Passes an item that was found in the lexable bytes, and returns the item with its span in
+    /// the stream. Returns `NotUtf8`, and passes nothing, if the item ends inside a character.
     pub(crate) fn emit(&mut self, item: StreamItem) -> Streamed
         requires order { start_of item < end_of item }
         requires within { end_of item ≤ length self.old.lexed }
@@ -196,9 +196,9 @@ impl<R: Read + Drop> Window<R> {
         Streamed::Item(later(item, before))
     }
 
-    /// Passes the first `to` lexable bytes, which contain no item. Returns `More`, or `TooLong` if
-    /// the bound leaves no room. Returns `NotUtf8`, and passes nothing, if `to` is inside a
-    /// character.
+    /// Passes the first `to` lexable bytes, which must contain no item. Returns `More`, or
+    /// `TooLong` if the bound leaves no room for more bytes. Returns `NotUtf8`, and passes nothing,
+    /// if `to` is inside a character.
     pub(crate) fn wait(&mut self, to: usize) -> Streamed
         requires { to ≤ length self.old.lexed }
         ensures { Waits self.old self.new to result }
@@ -225,8 +225,8 @@ impl<R: Read + Drop> Window<R> {
         Streamed::More
     }
 
-    /// Passes the remaining lexable bytes, which contain no item. Returns `NotUtf8` if other bytes
-    /// follow them, and `End` otherwise.
+    /// Passes the remaining lexable bytes, which must contain no item. Returns `NotUtf8` if other
+    /// bytes follow the lexable bytes, and `End` otherwise.
     pub(crate) fn finish(&mut self) -> Streamed
         requires { self.old.is_last ≡ true }
         ensures { Finishes self.old self.new result }

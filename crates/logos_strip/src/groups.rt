@@ -1,4 +1,5 @@
-//! Strips runs of tokens, group by group. `stripper` calls `strip_run` for a whole enum.
+//! Functions that strip runs of tokens, group by group. `stripper` calls `strip_run` for a whole
+//! enum.
 
 ghost use Rattle.std.specs.Prelude.{◌≡◌, ◌<◌, ◌≤◌, ◌∷◌, List, Option, Some, None, IfOk};
 ghost use Rattle.logos_strip.specs.Views.{Token, tokens_of, tree_of, stream_tokens, Open, scope_inside, left, thinned, sorted, completed, group_token};
@@ -25,8 +26,8 @@ fn keep_group<'s>(
     writer.with_tree(TokenTree::Group(inside.group(whole.delimiter, whole.span)))
 }
 
-/// Appends the token `tree`, which remains, to the writer, with the tokens inside it stripped. The
-/// token is at `spot` in a run of `scope`, and `rest` are the tokens after it.
+/// Strips the tokens inside the token `tree`, and appends the token to the writer. `spot` is the
+/// spot of the token in a run of `scope`, and `rest` are the tokens after `tree`.
 #[cycle(walk)]
 fn keep<'s>(
     alloc: Global,

@@ -1,5 +1,6 @@
-//! Recognizes the parts of an enum that belong to the derive macro: the macro's helper attributes,
-//! and the entries of `derive` that name the macro. Called by `spots` and `logos_rust_file`.
+//! Functions that recognize the parts of an enum that belong to the derive macro: the macro's
+//! helper attributes, and the entries of `derive` that name the macro. `spots` and
+//! `logos_rust_file` call them.
 
 ghost use Rattle.std.specs.Prelude.{◌≡◌};
 ghost use Rattle.logos_strip.specs.Imports.{tokens_of, tree_of, is_comma, is_helper_name, is_helper_path, holds_helper, begins_helper, ends_entry, is_macro_name, is_macro_segment, is_macro_path, is_global_path, is_macro_entry};
@@ -58,8 +59,8 @@ pub(crate) fn begins_helper(tokens: Tokens<'_, '_>) -> bool
     }
 }
 
-/// Returns whether an entry of `derive` ends before `tokens`: whether `tokens` begin with a comma
-/// or are empty.
+/// Returns whether an entry of `derive` ends before `tokens`. This holds if `tokens` begin with a
+/// comma or are empty.
 fn ends_entry(tokens: Tokens<'_, '_>) -> bool
     ensures { result ≡ ends_entry (tokens_of tokens.entry) }
 {

@@ -1,5 +1,5 @@
 //! Strips an enum: removes the helper attributes of the derive macro, and the macro's name in
-//! `derive`. Used by `logos strip` and the expansion of files.
+//! `derive`. `logos strip` and the expansion of files use this crate.
 
 #![tactic(auto)]
 

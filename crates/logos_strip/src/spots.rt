@@ -1,5 +1,5 @@
-//! Determines from the spot of each token of an enum whether the token is removed. `groups` calls
-//! `goes` and `spot_after` for each token.
+//! Functions that determine from the spot of each token of an enum whether the token is removed.
+//! `groups` calls `goes` and `spot_after` for each token.
 
 ghost use Rattle.std.specs.Prelude.{◌≡◌, ◌<◌, Some, None, MatchOption};
 ghost use Rattle.logos_strip.specs.Views.{tokens_of, tree_of, is_none, begins_gone, goes, after_part, after_start, after_hash, after_attributed, after_in_enum, after_in_attribute, spot_after, scope_of, rank};
@@ -26,7 +26,7 @@ pub enum Scope {
 /// can be removed.
 #[derive(Clone, Copy)]
 pub enum TokenSpot {
-    /// The point at which an attribute, a path or an entry can begin.
+    /// A point at which an attribute, a path or an entry can begin.
     Open,
     /// The point after the `#` of an attribute that remains.
     Hash,
@@ -38,8 +38,8 @@ pub enum TokenSpot {
     Within,
 }
 
-/// Returns whether `tokens`, at the spot `Open` in a run of `scope`, begin with an attribute or an
-/// entry that is removed.
+/// Returns whether `tokens` begin with an attribute or an entry that is removed. The tokens are at
+/// the spot `Open` in a run of `scope`.
 fn begins_gone(scope: Scope, tokens: Tokens<'_, '_>) -> bool
     ensures { result ≡ begins_gone scope (tokens_of tokens.entry) }
 {
@@ -50,7 +50,8 @@ fn begins_gone(scope: Scope, tokens: Tokens<'_, '_>) -> bool
     }
 }
 
-/// Returns whether the first token of `tokens`, at `spot` in a run of `scope`, is removed.
+/// Returns whether the first token of `tokens` is removed. The token is at `spot` in a run of
+/// `scope`.
 pub(crate) fn goes(scope: Scope, spot: TokenSpot, tokens: Tokens<'_, '_>) -> bool
     ensures { result ≡ goes scope spot (tokens_of tokens.entry) }
 {
@@ -61,8 +62,9 @@ pub(crate) fn goes(scope: Scope, spot: TokenSpot, tokens: Tokens<'_, '_>) -> boo
     }
 }
 
-/// Returns the spot after the token `tree` of a part. After a comma, joint or alone, the next part
-/// begins, and the spot is `Open`. After any other token, the spot is `other`.
+/// Returns the spot after the token `tree` of an entry, a variant or a field. The spot after a
+/// comma of either spacing is `Open`, because another entry, variant or field can begin there. The
+/// spot after any other token is `other`.
 fn after_part(other: TokenSpot, tree: TokenTree<'_, '_>) -> TokenSpot
     ensures { result ≡ after_part other (tree_of tree.entry) }
 {
@@ -73,7 +75,7 @@ fn after_part(other: TokenSpot, tree: TokenTree<'_, '_>) -> TokenSpot
     }
 }
 
-/// Returns the spot after the token `tree`, which remains and is at the spot `Open`. Returns
+/// Returns the spot after the token `tree`, which is at the spot `Open` and is not removed. Returns
 /// `other` if the token does not begin an attribute.
 fn after_start(other: TokenSpot, tree: TokenTree<'_, '_>) -> TokenSpot
     ensures { result ≡ after_start other (tree_of tree.entry) }

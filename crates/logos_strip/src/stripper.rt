@@ -1,5 +1,5 @@
-//! Strips sources. `logos strip` calls `strip_attributes`, and the expansion of files calls
-//! `strip_enum`.
+//! The functions that strip sources. `logos strip` calls `strip_attributes`, and the expansion of
+//! files calls `strip_enum`.
 
 ghost use Rattle.std.specs.Prelude.{◌≡◌, ◌<◌, [], ◌∷◌, length, IfOk, IfErr, IsErrAnd};
 ghost use Rattle.logos_strip.specs.Views.{source_limit, Fault, Spells, stream_tokens, tokens_of, EnumValue, too_long, EndsReading, EndsTokens, Refuses, IsMemory, stripped, AreStripped, IsStripped, SpellsEnum};
@@ -40,10 +40,14 @@ fn strip_tokens<'s>(alloc: Global, stream: &TokenStream<'s>) -> Result<TokenStre
 ///
 /// # Errors
 ///
-/// Returns `Errors` with the one fault that ends the reading: `LimitSource` if the source is longer
-/// than 16 MiB; `Lexical` if the source cannot be split into tokens; `LimitTokenNesting` if its
-/// groups are nested too deeply; `NotAnEnum`, `Grammar`, `TypeUnsupported` or `LimitTypeNesting` if
-/// its tokens are not an enum. Returns `Memory` if memory runs out.
+/// Returns `Memory` if memory runs out, or `Errors` with one fault, which ends the reading. The
+/// fault is:
+///
+/// - `LimitSource` if the source is longer than 16 MiB.
+/// - `Lexical` if the source cannot be split into tokens.
+/// - `LimitTokenNesting` if the groups of the source are nested more than 128 deep.
+/// - `NotAnEnum`, `Grammar`, `TypeUnsupported` or `LimitTypeNesting` if the tokens of the source
+///   are not an enum.
 pub fn strip_attributes<'s>(alloc: Global, src: &'s str) -> Result<TokenStream<'s>, Refusal>
     ensures ok { IfOk result (λ left. IsStripped src.now (stream_tokens left)) }
     ensures err { IfErr result (Refuses (λ faults. (ending : Fault) × EndsReading src.now ending
@@ -60,9 +64,9 @@ pub fn strip_attributes<'s>(alloc: Global, src: &'s str) -> Result<TokenStream<'
 }
 
 /// Returns the tokens of the enum that the source `src` spells, without the parts that belong to
-/// the derive macro, as `strip_attributes` does. `tokens` are the tokens of the source. The source
-/// must spell an enum, such as an enum from which `generate` has made a lexer. The enum is not read
-/// again.
+/// the derive macro. The result is the same as that of `strip_attributes`, but the enum is not read
+/// again. `tokens` are the tokens of the source. The source must spell an enum, such as an enum
+/// from which `generate` has made a lexer.
 ///
 /// # Errors
 ///

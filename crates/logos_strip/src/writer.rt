@@ -1,5 +1,5 @@
-//! Collects the tokens that remain, tree by tree. `groups` writes the trees of each run to a
-//! `Writer`.
+//! The type `Writer`, which collects the tokens that remain. `groups` writes the trees of each run
+//! to a `Writer`.
 
 ghost use Rattle.std.specs.Prelude.{◌≡◌, [], ◌∷◌, List, Option, Some, None, IfOk};
 ghost use Rattle.logos_strip.specs.Views.{Token, stream_tokens, tree_of, left, completed};
@@ -8,13 +8,13 @@ use logos_token::error::Memory;
 use logos_token::token::{Punct, Spacing, TokenStream, TokenTree};
 use std::alloc::Global;
 
-/// A writer of trees, with the trees that were written.
+/// A writer of trees, with the trees written so far.
 #[derive(Drop)]
 pub(crate) struct Writer<'s> {
     /// All written trees except `held`.
     stream: TokenStream<'s>,
     /// The last tree, if it is punctuation. The punctuation gets the spacing `Alone` if the token
-    /// directly after it is removed.
+    /// directly after the punctuation is removed.
     held: Option<Punct>,
 }
 

@@ -1,5 +1,5 @@
-//! The stack of open groups. It builds the tree of a pattern while the pattern is read. The parser
-//! adds each token to the stack.
+//! Defines the stack of open groups. The stack builds the tree of a pattern while the pattern is
+//! read. The parser adds each token to the stack.
 
 ghost use Rattle.std.specs.Prelude.{◌≤◌, ◌≡◌, ◌+◌, ◌<◌, length, map, IfOk, OnOk, Some, unwrap_or, vec_len};
 ghost use Rattle.logos_syntax.specs.Imports.{pattern_nesting, tree_of, simplest_tree, flags_after, opening_view, token_view, closes, opens, repeats, sets, bracketed, atom as token_atom, Bracket, set_of, bracket_set, bracket_depth, inner_flags, captures, group_tree, is_greedy};
@@ -90,7 +90,7 @@ fn captures(opening: GroupOpening<'_>) -> bool
     }
 }
 
-/// Returns whether the operator is greedy with these flags.
+/// Returns whether the operator is greedy under the flags `flags`.
 fn is_greedy(flags: Flags, op: Operator) -> bool
     ensures { result ≡ is_greedy flags op }
 {
@@ -111,8 +111,8 @@ impl OpenedGroup {
     ghost use Rattle.logos_syntax.specs.Views.{pattern_nesting, Group, fresh, all_parts, put, set, next_branch, all_branches, whole_tree, repeat, part_view, group_view, Repeats};
 
     /// Returns a group of which only the opening has been read. `level` is the number of groups
-    /// around the inside of the group, and `left` the number of characters from the opening to the
-    /// end of the text.
+    /// around the inside of the group, and `left` is the number of characters from the opening to
+    /// the end of the text.
     fn new(alloc: Global, flags: Flags, captured: bool, level: usize, left: usize) -> OpenedGroup
         requires { level ≤ pattern_nesting }
         ensures { group_view result ≡ fresh flags captured level }
@@ -184,8 +184,11 @@ impl OpenedGroup {
     ///
     /// # Errors
     ///
-    /// Returns `NothingToRepeat` if there is no last part, `LimitPatternNesting` if the repetition
-    /// is nested too deeply, and `Memory` if memory runs out.
+    /// Returns:
+    ///
+    /// - `NothingToRepeat` if there is no last part;
+    /// - `LimitPatternNesting` if the repetition is nested too deeply;
+    /// - `Memory` if memory runs out.
     fn repeat(&mut self, alloc: Global, op: Operator, left: usize) -> Result<(), Stop>
         ensures { Repeats result (repeat (group_view self.old) op (group_view self.old).last)
             (group_view self.new) }
@@ -259,8 +262,10 @@ impl Groups {
     ///
     /// # Errors
     ///
-    /// Returns `UnicodeWordBoundary` or `NotInBytes` if the flags do not allow the atom, and
-    /// `Memory` if memory runs out.
+    /// Returns:
+    ///
+    /// - `UnicodeWordBoundary` or `NotInBytes` if the flags do not allow the atom;
+    /// - `Memory` if memory runs out.
     fn atom(&mut self, alloc: Global, atom: Atom, left: usize) -> Result<(), Stop>
         ensures { Steps (state_view self.old) (token_atom atom) result (state_view self.new) }
     {
@@ -367,8 +372,11 @@ impl Groups {
     ///
     /// # Errors
     ///
-    /// Returns the fault of the token if it is not allowed after the preceding tokens,
-    /// `LimitPatternNesting` if it is nested too deeply, or `Memory` if memory runs out.
+    /// Returns:
+    ///
+    /// - the fault of the token if the token is not allowed after the preceding tokens;
+    /// - `LimitPatternNesting` if the token is nested too deeply;
+    /// - `Memory` if memory runs out.
     pub(crate) fn step(&mut self, alloc: Global, token: Token<'_>, left: usize) -> Result<(), Stop>
         ensures { Steps (state_view self.old) (token_view token.entry) result
             (state_view self.new) }

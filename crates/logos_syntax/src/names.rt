@@ -1,5 +1,5 @@
-//! Collects the names of a pattern's groups. The names must be distinct. The parser adds the name
-//! of each group.
+//! Collects the names of the groups in a pattern. The names must be distinct. The parser adds the
+//! name of each group.
 
 ghost use Rattle.std.specs.Prelude.{◌≡◌, ◌∷◌, [], List, not, bytes_eq, IfOk};
 ghost use Rattle.logos_syntax.specs.Views.{list_any, Text, token_view, HasNames, Admits};

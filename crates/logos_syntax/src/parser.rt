@@ -32,7 +32,12 @@ impl PatternParser {
         }
     }
 
-    /// Returns the stop for the fault `fault` of the token at the front of `text`.
+    /// Returns the stop for the fault `kind` of a repetition operator with counts. `left` is the
+    /// number of characters from the operator's brace to the end of the text.
+    ///
+    /// If there is nothing to repeat, the fault of the stop is `NothingToRepeat`, and is at the
+    /// brace. Otherwise, the fault is `kind`, and is at the start of the part that the operator
+    /// would repeat, or at the brace if `kind` is `Unclosed`.
     fn stop(&self, fault: Fault, text: &[char]) -> Stop
         ensures { IsStopOf fault result }
     {
@@ -68,8 +73,11 @@ impl PatternParser {
     ///
     /// # Errors
     ///
-    /// Returns the first fault of the bracket, `LimitPatternNesting` if it is nested too deeply, or
-    /// `Memory` if memory runs out.
+    /// Returns:
+    ///
+    /// - the first fault of the bracket, from left to right;
+    /// - `LimitPatternNesting` if the bracket is nested too deeply;
+    /// - `Memory` if memory runs out.
     fn bracket<'t>(&mut self, alloc: Global, inside: &'t [char]) -> Result<&'t [char], Stop>
         ensures { (seen : List Text) → HasNames self.old.names seen →
             ReadsToken (state_view self.old.groups) seen (91 ∷ inside.now) result
@@ -90,8 +98,11 @@ impl PatternParser {
     ///
     /// # Errors
     ///
-    /// Returns the fault of the token, `LimitPatternNesting` if it is nested too deeply, or
-    /// `Memory` if memory runs out.
+    /// Returns:
+    ///
+    /// - the fault of the token, if the token has a fault;
+    /// - `LimitPatternNesting` if the token is nested too deeply;
+    /// - `Memory` if memory runs out.
     fn simple<'t>(&mut self, alloc: Global, text: &'t [char]) -> Result<&'t [char], Stop>
         ensures { (seen : List Text) → HasNames self.old.names seen →
             ReadsSimple (state_view self.old.groups) seen text.now result
@@ -118,8 +129,11 @@ impl PatternParser {
     ///
     /// # Errors
     ///
-    /// Returns the first fault of the token or bracket, `LimitPatternNesting` if it is nested too
-    /// deeply, or `Memory` if memory runs out.
+    /// Returns:
+    ///
+    /// - the first fault of the token or bracket, from left to right;
+    /// - `LimitPatternNesting` if the token or bracket is nested too deeply;
+    /// - `Memory` if memory runs out.
     fn token<'t>(&mut self, alloc: Global, text: &'t [char]) -> Result<&'t [char], Stop>
         ensures { (seen : List Text) → HasNames self.old.names seen →
             ReadsToken (state_view self.old.groups) seen text.now result
@@ -148,8 +162,11 @@ fn group_kind(kind: Kind, text: &[char]) -> Kind {
 ///
 /// # Errors
 ///
-/// Returns the first fault from the left, `LimitPatternNesting` if the text is nested too deeply,
-/// or `Memory` if memory runs out.
+/// Returns:
+///
+/// - the first fault of the text, from left to right;
+/// - `LimitPatternNesting` if the text is nested too deeply;
+/// - `Memory` if memory runs out.
 fn run(alloc: Global, flags: Flags, text: &[char]) -> Result<Hir, Stop>
     ensures found { IfOk result (λ hir. IsFound flags text.now (tree_of hir)) }
     ensures stopped { IfErr result (StopsText flags text.now) }
@@ -166,7 +183,7 @@ fn run(alloc: Global, flags: Flags, text: &[char]) -> Result<Hir, Stop>
     parser.groups.finish(alloc)
 }
 
-/// Returns the length of the characters in UTF-8, in bytes.
+/// Returns the number of bytes in the UTF-8 encoding of `text`.
 fn byte_len(text: &[char]) -> usize {
     let mut len: usize = 0;
     for c in text {
@@ -212,9 +229,11 @@ fn characters(alloc: Global, regex: &str) -> Result<Vec<char>, AllocError>
 ///
 /// # Errors
 ///
-/// Returns `Syntax` with the kind and the byte offset of the fault if the text breaks the grammar,
-/// `LimitPatternNesting` if groups, brackets and operators are nested more than 250 deep, and
-/// `Memory` if memory runs out.
+/// Returns:
+///
+/// - `Syntax`, with the kind and the byte offset of the fault, if the text breaks the grammar;
+/// - `LimitPatternNesting` if groups, brackets and operators are nested more than 250 deep;
+/// - `Memory` if memory runs out.
 pub fn parse(alloc: Global, flags: Flags, regex: &str) -> Result<Hir, PatternError>
     ensures found { IfOk result (λ hir. IsFound flags (chars regex.now) (tree_of hir)) }
     // A text that is refused has no tree, or only one that is nested too deeply, or memory ran out.
@@ -231,7 +250,7 @@ pub fn parse(alloc: Global, flags: Flags, regex: &str) -> Result<Hir, PatternErr
     }
 }
 
-/// With the same flags, a text has at most one tree.
+/// A text has at most one tree under given flags.
 pub fn one_tree()
     ensures { (flags : FlagsValue) (text : Text) (a b : Tree) (m n : ℕ) → Spells flags text a m →
         Spells flags text b n → (a ≡ b) × (m ≡ n) }

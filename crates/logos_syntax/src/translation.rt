@@ -51,8 +51,8 @@ fn character(alloc: Global, flags: Flags, c: char) -> Result<Hir, AllocError>
     encoding(alloc, c)
 }
 
-/// Returns the tree that matches a byte, or the character with the number `b` if the pattern
-/// matches characters. The tree matches in both cases if the flag `i` is on.
+/// Returns the tree that matches the byte `b` if the pattern matches bytes, and the character with
+/// the number `b` otherwise. The tree matches in both cases of letters if the flag `i` is on.
 fn byte(alloc: Global, flags: Flags, b: u8) -> Result<Hir, AllocError>
     ensures { IfOk result (λ hir. tree_of hir ≡ byte_tree flags b) }
 {
@@ -114,9 +114,9 @@ fn boundary(negated: bool) -> Look
     }
 }
 
-/// Returns the tree that matches one member of the class `set`, or one member of its complement if
-/// `negated` is `true`. If the flag `i` is on, the class also contains the other cases of its
-/// members.
+/// Returns the tree that matches one member of a class. If `negated` is `true`, the tree matches
+/// one member of the complement of the class instead. The class contains the members of `set` and,
+/// if the flag `i` is on, the other cases of these members.
 fn class(alloc: Global, flags: Flags, negated: bool, set: RangeSet) -> Result<Hir, AllocError>
     ensures { IfOk result (λ hir. tree_of hir ≡
         one_of flags (set_or_complement flags negated (case_closure flags (set_of set)))) }

@@ -1,4 +1,4 @@
-//! Prints numbers as the text of a byte string. Called by `fields`.
+//! Functions that print numbers as the text of a byte string. `fields` calls them.
 
 ghost use Rattle.std.specs.Prelude.{◌≡◌, ◌++◌, OnOk, string_bytes};
 ghost use Rattle.logos_tables.specs.Imports.{flat_map, are_at_most, byte_text, entries_text, entry_text, size_number};
@@ -6,7 +6,7 @@ ghost use Rattle.logos_tables.specs.Imports.{flat_map, are_at_most, byte_text, e
 use logos_byte_class::text::{is_printable, letter_of, lower_digit};
 use logos_token::error::Memory;
 
-/// Returns the least of 1, 2, 4 and 8 bytes in which each of `numbers` fits.
+/// Returns the smallest of the sizes 1, 2, 4 and 8 bytes in which each of `numbers` fits.
 pub(crate) fn size_of(numbers: &[usize]) -> usize
     ensures { result ≡ size_number numbers.now }
 {
@@ -45,7 +45,7 @@ pub(crate) fn push_entries(text: &mut String, size: usize, numbers: &[usize]) ->
     Ok(())
 }
 
-/// Appends the lowest `size` bytes of `number`, beginning with the lowest byte.
+/// Appends the lowest `size` bytes of `number`, in little-endian order.
 fn push_entry(text: &mut String, size: usize, number: usize) -> Result<(), Memory>
     ensures { OnOk result (string_bytes text.new ≡ string_bytes text.old ++ entry_text size number) }
 {

@@ -1,5 +1,5 @@
-//! Computes the equivalence classes of symbols. All symbols of a class have the same step in each
-//! state. `made` calls `classes_of`, and `runs` reads rows by class.
+//! The equivalence classes of symbols. All symbols of a class have the same step in each state.
+//! `made` calls `classes_of`, and `runs` calls `step_at`.
 
 ghost use Rattle.std.specs.Prelude.{◌≡◌, ◌+◌, ◌<◌, IfOk, IfSome, OnOk, IsTrue, slice_index};
 ghost use Rattle.logos_tables.specs.Imports.{AreClasses, Classify, IsClassOf, HaveSameSteps};

@@ -1,4 +1,5 @@
-//! Prints lists of numbers as fields of the tables. Called by `lexer`. `parts` calls `push_str`.
+//! Functions that print lists of numbers as fields of the tables. `lexer` calls them, and `parts`
+//! calls `push_str`.
 
 ghost use Rattle.std.specs.Prelude.{◌≡◌, ◌++◌, ◌∷◌, [], OnOk, map, string_bytes};
 ghost use Rattle.logos_tables.specs.Imports.{Appends, field_head, field_text, runs_texts};
@@ -17,8 +18,8 @@ pub(crate) fn push_field(text: &mut String, name: &str, numbers: &[usize]) -> Re
     Ok(())
 }
 
-/// Appends the text of a field: its name, the number of bytes of each of its numbers, and the bytes
-/// of all numbers.
+/// Appends the text of a field: the name of the field, the size of each number in bytes, and the
+/// bytes of all numbers.
 fn push_whole_field(text: &mut String, name: &str, numbers: &[usize]) -> Result<(), Memory>
     ensures { OnOk result (string_bytes text.new
         ≡ string_bytes text.old ++ field_text name.now numbers.now) }
@@ -30,7 +31,7 @@ fn push_whole_field(text: &mut String, name: &str, numbers: &[usize]) -> Result<
     Ok(())
 }
 
-/// Appends the beginning of a field: its name, and the number of bytes of each of its numbers.
+/// Appends the beginning of a field: the name `name`, and the size `size` of each number in bytes.
 fn push_head(text: &mut String, name: &str, size: usize) -> Result<(), Memory>
     ensures { OnOk result (string_bytes text.new
         ≡ string_bytes text.old ++ field_head name.now size) }

@@ -1,4 +1,5 @@
-//! Prints a table-driven lexer. Called by `shape` for the shape `tables`.
+//! The function `tables`, which prints a table-driven lexer. `shape` calls this function for the
+//! shape `tables`.
 
 ghost use Rattle.std.specs.Prelude.{◌∷◌, [], IfOk, OnOk, length, string_bytes};
 ghost use Rattle.logos_tables.specs.Views.{Appends, AppendsMade, AppendsNumbers, AppendsTables, ArePrinted, HoldsTables, around_made, front_runs, marks_text, skips_text, step_texts};
@@ -85,8 +86,8 @@ fn push_marks(alloc: Global, text: &mut String, code: &Code<'_>) -> Result<(), M
     push_field(text, "marks", &marks)
 }
 
-/// Appends the table with a number for each leaf: 1 if its matches are skipped without a callback,
-/// and 0 otherwise.
+/// Appends the table with a number for each leaf. The number is 1 if the leaf's matches are skipped
+/// without a callback, and 0 otherwise.
 fn push_skips(alloc: Global, text: &mut String, code: &Code<'_>) -> Result<(), Memory>
     ensures { OnOk result (Appends (skips_text code.now ∷ []) (string_bytes text.old)
         (string_bytes text.new)) }

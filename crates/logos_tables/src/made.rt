@@ -1,4 +1,4 @@
-//! Computes the values from which the tables of a code are printed. Called by `lexer`.
+//! The values from which the tables of a code are printed. `lexer` calls `tables_of`.
 
 ghost use Rattle.std.specs.Prelude.{◌≡◌, IfOk};
 ghost use Rattle.logos_tables.specs.Imports.{AreMade};
@@ -12,14 +12,14 @@ use std::alloc::{AllocError, Global};
 /// The values from which the tables of a code are printed.
 #[derive(Drop)]
 pub(crate) struct PrintedTables {
-    /// The rows of all states, in the order of their numbers.
+    /// The rows of all states, in the order of the states' numbers.
     pub(crate) rows: StepRows,
     /// The classes of all symbols.
     pub(crate) classes: SymbolClasses,
     /// The runs of equal classes among all symbols.
     pub(crate) class_runs: Vec<Run>,
-    /// The runs of equal steps in the concatenated distinct rows. Each row has one step for each
-    /// class.
+    /// The runs of equal steps in the concatenated distinct rows. Each row contains one step for
+    /// each class.
     pub(crate) runs: Vec<Run>,
 }
 

@@ -1,5 +1,5 @@
-//! Encodes the marks of states, and the leaves whose matches are skipped, as numbers. Called by
-//! `lexer`, which prints these numbers after the steps.
+//! Functions that encode as numbers the marks of states, and the leaves whose matches are skipped.
+//! `lexer` calls them, and prints these numbers after the steps.
 
 ghost use Rattle.std.specs.Prelude.{◌≡◌, ◌<◌, IfOk, IfSome, map, option_map};
 ghost use Rattle.logos_tables.specs.Imports.{All, leaf_limit, mark_of, use_of, mark_number, skip_number};
@@ -38,8 +38,8 @@ fn mark_number(mark: Option<Mark>) -> usize
     }
 }
 
-/// Returns a number for each leaf: 1 if its matches are skipped without a callback, and 0
-/// otherwise.
+/// Returns a number for each leaf. The number is 1 if the leaf's matches are skipped without a
+/// callback, and 0 otherwise.
 ///
 /// # Errors
 ///

@@ -1,5 +1,5 @@
-//! Computes the lengths of the arrays that the runtime makes from the tables. Called by `lexer`,
-//! which prints these lengths. The compiler rejects wrong lengths.
+//! Functions that compute the lengths of the arrays that the runtime makes from the tables. `lexer`
+//! calls them, and prints these lengths. The compiler rejects wrong lengths.
 
 use crate::made::PrintedTables;
 use crate::steps::Steps;
@@ -10,13 +10,13 @@ const FEW: usize = 300;
 /// The number of columns of a row that has an entry for each byte.
 const BYTES: usize = 272;
 
-/// The maximum number of entries of all rows for which folded tables have rows.
+/// The maximum total number of row entries for which folded tables have rows.
 const MOST_ENTRIES: usize = 1048575;
 
 /// The maximum number of leaves for which folded tables have rows.
 const MOST_LEAVES: usize = 1023;
 
-/// The total number of entries of folded tables before and after their rows.
+/// The number of entries of folded tables that do not belong to rows.
 const BESIDE: usize = 1024;
 
 /// Returns the number of columns of a row. A row has a column for each byte if there are at most
@@ -44,8 +44,9 @@ pub(crate) fn entry_count(tables: &PrintedTables) -> usize {
     row_entries(tables, 0).saturating_add(256)
 }
 
-/// Returns the number of entries in the folded tables of a lexer with `leaves` leaves. The walks of
-/// the runtime read these tables. If there are too many entries or leaves, the tables have no rows.
+/// Returns the number of entries in the folded tables of a lexer with `leaves` leaves. The scans of
+/// the runtime read these tables. The tables have no rows if the limits `MOST_ENTRIES` and
+/// `MOST_LEAVES` do not allow rows.
 pub(crate) fn folded_count(tables: &PrintedTables, leaves: usize) -> usize {
     let entries = row_entries(tables, 1);
     if (entries > MOST_ENTRIES) | (leaves > MOST_LEAVES) {
@@ -54,13 +55,13 @@ pub(crate) fn folded_count(tables: &PrintedTables, leaves: usize) -> usize {
     power_of_two(entries).saturating_add(BESIDE)
 }
 
-/// Returns the number of masks: the least power of two that is not less than the number of distinct
-/// rows in which some byte does not change the state.
+/// Returns the number of masks. This is the least power of two that is not less than the number of
+/// distinct rows in which at least one byte does not change the state.
 pub(crate) fn mask_count(tables: &PrintedTables) -> usize {
     power_of_two(loop_count(tables.rows.distinct.as_slice()))
 }
 
-/// Returns the number of rows in which some byte does not change the state.
+/// Returns the number of rows in which at least one byte does not change the state.
 fn loop_count(rows: &[Steps]) -> usize {
     let mut count: usize = 0;
     for row in rows {

@@ -1,4 +1,5 @@
-//! Prints the parts of the implementation of `Tables`. Called by `lexer` for each part in turn.
+//! Functions that print the sections of the implementation of `Tables`. `lexer` calls them one
+//! after the other.
 
 ghost use Rattle.std.specs.Prelude.{◌≡◌, ◌++◌, ◌∷◌, [], OnOk, string_bytes};
 ghost use Rattle.logos_tables.specs.Imports.{Appends, data_text, end_text, entries_size_text, folded_text, head_text, masks_text, unpacked_text};
@@ -31,8 +32,8 @@ pub(crate) fn push_head(text: &mut String, this: &str) -> Result<(), Memory>
     Ok(())
 }
 
-/// Appends the beginning of the tables. `root` is the number of the state in which match attempts
-/// begin, and `width` is the number of classes.
+/// Appends the beginning of the tables. `root` is the number of the root, and `width` is the number
+/// of classes.
 pub(crate) fn push_data(text: &mut String, root: usize, width: usize) -> Result<(), Memory>
     ensures { OnOk result (string_bytes text.new
         ≡ string_bytes text.old ++ data_text root width) }
@@ -81,8 +82,8 @@ pub(crate) fn push_masks(text: &mut String, masks: usize) -> Result<(), Memory>
     Ok(())
 }
 
-/// Appends the constant that the walks of the runtime read: the folded tables, with `entries`
-/// entries.
+/// Appends the constant with the folded tables, which have `entries` entries. The scans of the
+/// runtime read this constant.
 pub(crate) fn push_folded(text: &mut String, entries: usize) -> Result<(), Memory>
     ensures { OnOk result (string_bytes text.new ≡ string_bytes text.old ++ folded_text entries) }
 {

@@ -1,4 +1,4 @@
-//! Computes the rows of all states, and stores each distinct row once. Called by `made`.
+//! The rows of all states, with each distinct row stored once. `made` calls `rows_of`.
 
 ghost use Rattle.std.specs.Prelude.{◌≡◌, ℕ, ◌<◌, ◌++◌, ◌∷◌, [], IfOk, OnOk, length, vec_len, slice_index, slice_index_or};
 ghost use Rattle.logos_tables.specs.Imports.{AreRows, AreWide, rows_at};
@@ -11,7 +11,7 @@ use std::alloc::{AllocError, Global};
 /// A list of rows that stores each distinct row once.
 #[derive(Drop)]
 pub(crate) struct StepRows {
-    /// The index in `distinct` of each row of the list.
+    /// For each row of the list, the row's index in `distinct`.
     pub(crate) slots: Vec<usize>,
     /// The distinct rows.
     pub(crate) distinct: IndexSet<Steps>,
@@ -49,7 +49,7 @@ fn state_count(code: &Code<'_>) -> usize
     code.parts().states.len()
 }
 
-/// Returns the rows of all states, in the order of their numbers.
+/// Returns the rows of all states, in the order of the states' numbers.
 ///
 /// # Errors
 ///

@@ -1,5 +1,5 @@
-//! Finds the runs of equal numbers in the classes of symbols, and in rows with one step for each
-//! class. Called by `made`. `fields` prints the runs.
+//! Functions that find the runs of equal numbers in the classes of symbols, and in rows with one
+//! step for each class. `made` calls them, and `fields` prints the runs.
 
 ghost use Rattle.std.specs.Prelude.{◌≡◌, ◌<◌, ◌++◌, ◌∷◌, [], IfOk, OnOk, IsTrue, map};
 ghost use Rattle.logos_tables.specs.Imports.{flat_map, by_classes, spread};
@@ -11,10 +11,11 @@ use std::alloc::{AllocError, Global};
 /// The maximum length of a run.
 const LONGEST: usize = 65535;
 
-/// A run of equal numbers, as a pair of the run's length and the number.
+/// A run of equal numbers. The first element of the pair is the length of the run, and the second
+/// element is the number.
 pub(crate) type Run = (usize, usize);
 
-/// Splits `numbers` into runs of equal numbers. Returns the runs in order.
+/// Splits `numbers` into runs of equal numbers. Returns the runs in the order in which they occur.
 ///
 /// # Errors
 ///
@@ -77,7 +78,7 @@ fn push_step(runs: &mut Vec<Run>, step: usize) -> Result<(), AllocError>
     Ok(())
 }
 
-/// Returns whether `run` can be extended by `step`.
+/// Returns whether `step` can be appended to `run`.
 fn continues(run: Run, step: usize) -> bool
     ensures { IsTrue result → (run.1 ≡ step) × (run.0 < LONGEST) }
 {

@@ -1,4 +1,5 @@
-//! Prints lexers in each shape. Called by `logos_derive`, `logos_expand` and `logos_cli`.
+//! The function `lexer_text`, which prints a lexer in a given shape. `logos_derive`, `logos_expand`
+//! and `logos_cli` call this function.
 
 ghost use Rattle.std.specs.Prelude.{◌≡◌, IfOk, string_bytes};
 ghost use Rattle.logos_tables.specs.Views.{ArePrinted, IsShown, around_made, config_of, shape_runs};
@@ -19,8 +20,8 @@ pub enum Shape {
     Tables,
 }
 
-/// Returns the shape of the code from which a lexer of the shape `shape` is printed. For tables,
-/// the result is the shape with a loop over the current state.
+/// Returns the shape of the code from which a lexer of the shape `shape` is printed. The result for
+/// `Tables` is the shape with a loop over the current state.
 pub fn config_of(shape: Shape) -> Config
     ensures { result ≡ config_of shape }
 {

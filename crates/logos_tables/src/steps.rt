@@ -1,5 +1,5 @@
-//! Encodes the steps of a state as numbers: one for each byte, and one for the end of the input.
-//! Called by `rows` for each state.
+//! Functions that encode the steps of a state as numbers: one for each byte, and one for the end of
+//! the input. `rows` calls `steps_of` for each state.
 
 ghost use Rattle.std.specs.Prelude.{◌≡◌, ◌<◌, length, IfSome, IsTrue};
 ghost use Rattle.logos_tables.specs.Imports.{passes_test, code_of, state_at, NamesState, NamesTest, stays, target, HasSteps, led_number, step_number};

@@ -1,5 +1,5 @@
-//! Prints the functions that a table-driven lexer calls for errors, matches and tokens. The
-//! functions represent leaves by their numbers. Called once, by `code`.
+//! Printers of the functions that a table-driven lexer calls for errors, matches and tokens. These
+//! functions represent each leaf by its number. `code` calls `push_table_actions` once.
 
 ghost use Rattle.std.specs.Prelude.{◌≡◌, OnOk};
 ghost use Rattle.logos_text.specs.Views.{Notes, NotesLast, called_leaf_runs, flat_map, is_called, last_arm_text, leaf_runs, plain_leaf_runs, table_runs, variant_runs};
@@ -15,7 +15,7 @@ use logos_token::token::Ident;
 use std::alloc::Global;
 
 /// Appends the functions for errors, for matches, and for the tokens of leaves that have no
-/// callback and no field.
+/// callback and whose variant has no field.
 pub(crate) fn push_table_actions(
     alloc: Global,
     sink: &mut Sink,
@@ -87,7 +87,7 @@ fn push_action_arm(
     Ok(())
 }
 
-/// Appends the match arm of leaf number `n`, which has a callback or a field.
+/// Appends the match arm of leaf number `n`, a leaf with a callback or a field.
 fn push_called_arm(
     alloc: Global,
     sink: &mut Sink,

@@ -1,4 +1,4 @@
-//! Prints calls of the callbacks of leaves. Called by `leaves`.
+//! Printers of the calls of leaves' callbacks. `leaves` calls `push_call`.
 
 ghost use Rattle.std.specs.Prelude.{OnOk};
 ghost use Rattle.logos_text.specs.Views.{Notes, callback_runs, callback_value, inline_runs, noted_runs, stream_tokens, tokens_of};
@@ -23,7 +23,7 @@ pub(crate) fn push_call(
     }
 }
 
-/// Appends the call of a callback that is the function with the path `label`.
+/// Appends the call of a callback. The callback is the function with the path `label`.
 fn push_label(alloc: Global, sink: &mut Sink, label: Tokens<'_, '_>) -> Result<(), Memory>
     ensures { OnOk result (Notes (noted_runs (tokens_of label.entry)) sink.old sink.new) }
 {
@@ -32,7 +32,8 @@ fn push_label(alloc: Global, sink: &mut Sink, label: Tokens<'_, '_>) -> Result<(
     Ok(())
 }
 
-/// Appends an inline callback as a block: its parameter and then its body.
+/// Appends an inline callback as a block: first the callback's parameter, and then the callback's
+/// body.
 fn push_inline(alloc: Global, sink: &mut Sink, inline: &InlineCallback<'_>) -> Result<(), Memory>
     ensures { OnOk result (Notes (inline_runs inline.now.arg (stream_tokens inline.now.body))
         sink.old sink.new) }

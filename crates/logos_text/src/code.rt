@@ -1,5 +1,5 @@
-//! Prints a whole lexer: the text of a code, and the implementation of `Logos` around this text.
-//! Called by `logos_codegen`.
+//! Functions that print a whole lexer: the text of a code, and the implementation of `Logos` around
+//! this text. `logos_codegen` calls them.
 
 ghost use Rattle.std.specs.Prelude.{[], IfOk, OnOk, map, string_bytes};
 ghost use Rattle.logos_text.specs.Views.{Adds, ArePrinted, BeginsWith, Grows, IsFront, Notes, OccurInOrder, action_runs, around_value, code_of, flat_map, front_runs, opening_text, printed_type, short_core, state_of, state_texts, text_runs, texts_in, texts_of, type_tree};
@@ -18,21 +18,21 @@ use logos_token::error::Memory;
 use logos_type::print_type;
 use std::alloc::Global;
 
-/// The path of `core` in generated code of the shapes in `Config`, with the gap after it.
+/// The path of `core` in generated code of the shapes in `Config`, with the gap after the path.
 const SHORT_CORE: &str = "core ";
-/// The path of `core` in generated code of the shape `tables`, with the gap after it. The path is
-/// absolute, so no module beside the enum changes its meaning.
+/// The path of `core` in generated code of the shape `tables`, with the gap after the path. The
+/// path is absolute, so that no module beside the enum can change the path's meaning.
 const WHOLE_CORE: &str = ":: core ";
-/// The text before the function of a table-driven lexer. The function is short, and a caller that
-/// inlines it keeps the lexer in registers.
+/// The attribute before the function `lex` of a table-driven lexer. The function is short, and a
+/// caller that inlines the function keeps the lexer in registers.
 const TABLES_LEAD: &str = "# [ inline ] ";
 
 /// Returns the Rust text of a code, as the body of a function. The text consists of tokens, with
 /// the gaps that `print` puts between tokens.
 ///
-/// The text contains the texts of all bit tables, in the order of their numbers. After the tables,
-/// it contains the conditions of all forks, in the order of the states and of the conditions of
-/// each fork. No two of these texts overlap.
+/// The text contains the texts of all bit tables, in the order of their numbers. The texts of the
+/// conditions of all forks follow, in the order of the states and, within a fork, in the order of
+/// the fork's conditions. No two of these texts overlap.
 ///
 /// # Errors
 ///
@@ -47,9 +47,9 @@ pub fn text(alloc: Global, code: &Code<'_>) -> Result<String, Memory>
     Ok(sink.text)
 }
 
-/// Returns the text of the implementation of `Logos`, with the pieces of the source in it. The text
-/// consists of the Rust text of a code, as `text` returns it, and of the text around it, which
-/// `around` determines.
+/// Returns the text of the implementation of `Logos`, with the pieces of the source in this text.
+/// The body of the lexing function is the text that `text` returns for `code`. `around` determines
+/// the text around this body.
 ///
 /// # Errors
 ///
@@ -71,10 +71,10 @@ pub fn text_in(alloc: Global, code: &Code<'_>, around: Around<'_, '_>) -> Result
     Ok(sink)
 }
 
-/// Returns the first part of a table-driven implementation of `Logos`, with the pieces of the
-/// source in it. The first part consists of the associated types and of the beginning of the
-/// function `lex`, with its imports and its functions for errors, matches and tokens. The caller
-/// appends the rest of the body.
+/// Returns the beginning of a table-driven implementation of `Logos`, with the pieces of the source
+/// in this text. The beginning contains the associated types and the first items of the function
+/// `lex`: the imports, and the functions for errors, matches and tokens. The caller appends the
+/// rest of the function's body.
 ///
 /// # Errors
 ///
@@ -114,8 +114,8 @@ fn push_code(
     Ok(())
 }
 
-/// Appends the macro of fast loops over blocks of eight bytes, and the macro that ends a match
-/// attempt.
+/// Appends the macro `_fast_loop`, which reads blocks of eight bytes, and the macro `_take_action`,
+/// which ends a match attempt.
 fn push_macros(text: &mut String, root: usize, names: Names<'_>) -> Result<(), Memory>
     ensures { OnOk result (Grows (string_bytes text.old) (string_bytes text.new)) }
 {
@@ -123,7 +123,7 @@ fn push_macros(text: &mut String, root: usize, names: Names<'_>) -> Result<(), M
     push_take_action_macro(text, root, names)
 }
 
-/// Appends the functions for matches and errors, and after them the enum of the leaves.
+/// Appends the functions for matches and errors, followed by the enum of the leaves.
 fn push_actions(
     alloc: Global,
     sink: &mut Sink,

@@ -1,6 +1,6 @@
-//! Prints the conditions of generated code that test a byte of the input, and the steps to other
-//! states. Called by `forks` for each branch, and by `states` for fast loops and for the end of the
-//! input.
+//! Printers of the conditions of generated code that test a byte of the input, and of the steps to
+//! other states. `forks` calls them for each branch. `states` calls them for fast loops and for the
+//! end of the input.
 
 ghost use Rattle.std.specs.Prelude.{◌≡◌, ◌++◌, ◌∷◌, [], ◌==◌, ◌<◌, OnOk, map, codes, string_bytes};
 ghost use Rattle.logos_text.specs.Imports.{flat_map, join_by, comparison_of, condition_of, is_quoted, end_text, exception_text, single_text, between_text, comparison_text, bit_text, test_text, transition_text, condition_text};
@@ -20,8 +20,8 @@ fn is_quoted(byte: u8) -> bool
     matches!(byte, b'!'..=b'}') & (byte != b'`')
 }
 
-/// Appends a byte that is an end of a range. The byte is printed as a byte literal in quotes if it
-/// is a visible ASCII character other than a backquote and a tilde, and as a number otherwise.
+/// Appends `byte`, the start or the end of a range. The byte is printed as a byte literal in quotes
+/// if it is a visible ASCII character other than a backquote or a tilde, and as a number otherwise.
 fn push_end(text: &mut String, byte: u8) -> Result<(), Memory>
     ensures { OnOk result (string_bytes text.new ≡ string_bytes text.old ++ end_text byte) }
 {
@@ -117,7 +117,7 @@ fn push_next_comparison(text: &mut String, comparison: &Comparisons) -> Result<(
     push_comparison(text, comparison)
 }
 
-/// Appends comparisons, each after `||`.
+/// Appends the comparisons, each preceded by `||`.
 fn push_next_comparisons(text: &mut String, comparisons: &[Comparisons]) -> Result<(), Memory>
     ensures { OnOk result (string_bytes text.new ≡ string_bytes text.old
         ++ flat_map (λ c. codes " || " ++ comparison_text c) (map comparison_of comparisons.now)) }
@@ -186,8 +186,8 @@ pub(crate) fn push_transition(text: &mut String, target: usize, shape: Config) -
     Ok(())
 }
 
-/// Appends the condition `test`, and the step to the state with the number `target`, which is taken
-/// if the condition holds.
+/// Appends the condition `test`, and a step to the state with the number `target`. The step is
+/// taken if the condition holds.
 pub(crate) fn push_condition(
     text: &mut String,
     test: &Condition,

@@ -1,4 +1,5 @@
-//! Prints the function that creates errors. Called once for each lexer, by `code` or by `actions`.
+//! The printer of the function that creates errors. `code` or `actions` calls `push_make_error`
+//! once for each lexer.
 
 ghost use Rattle.std.specs.Prelude.{OnOk, option_copied, option_map};
 ghost use Rattle.logos_text.specs.Views.{Notes, called_runs, callback_runs, callback_value, inline_runs, noted_runs, stream_tokens, tokens_of};
@@ -64,7 +65,7 @@ fn push_error_call(alloc: Global, sink: &mut Sink, callback: &Callback<'_>) -> R
     }
 }
 
-/// Appends the call of an error callback that is the function with the path `label`.
+/// Appends the call of an error callback. The callback is the function with the path `label`.
 fn push_error_label(alloc: Global, sink: &mut Sink, label: Tokens<'_, '_>) -> Result<(), Memory>
     ensures { OnOk result (Notes (noted_runs (tokens_of label.entry)) sink.old sink.new) }
 {
@@ -74,7 +75,7 @@ fn push_error_label(alloc: Global, sink: &mut Sink, label: Tokens<'_, '_>) -> Re
     Ok(())
 }
 
-/// Appends an inline error callback: its parameter and then its body.
+/// Appends an inline error callback: first the callback's parameter, and then the callback's body.
 fn push_error_inline(
     alloc: Global,
     sink: &mut Sink,

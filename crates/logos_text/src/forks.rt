@@ -1,5 +1,5 @@
-//! Prints forks: the steps of a state for the bytes that lead to states. Called by `states` for
-//! each state.
+//! Printers of forks. A fork consists of the steps of a state for the bytes that lead to states.
+//! `states` calls `push_ways` for each state.
 
 ghost use Rattle.std.specs.Prelude.{◌∷◌, [], OnOk, map, string_bytes};
 ghost use Rattle.logos_text.specs.Imports.{branch_of, fork_of, Adds, Grows, branch_text, fork_texts};
@@ -19,7 +19,7 @@ fn push_branch(text: &mut String, branch: &(Condition, usize), shape: Config) ->
     push(text, " ")
 }
 
-/// Appends the branches, in order.
+/// Appends the branches, in the order of `branches`.
 fn push_branches(
     text: &mut String,
     branches: &[(Condition, usize)],
@@ -34,8 +34,7 @@ fn push_branches(
     Ok(())
 }
 
-/// Appends the entry `entry` of a jump table for `byte`, with a comma before each entry but the
-/// first.
+/// Appends the entry of a jump table for `byte`. A comma precedes the entry unless `byte` is 0.
 fn push_jump(text: &mut String, byte: usize, entry: u32, shape: Config) -> Result<(), Memory>
     ensures { OnOk result (Grows (string_bytes text.old) (string_bytes text.new)) }
 {
@@ -72,8 +71,8 @@ fn push_jumps(text: &mut String, table: &[u32; 256], shape: Config) -> Result<()
     Ok(())
 }
 
-/// Appends a jump table and the statements that set the state according to the table, in the shape
-/// with a loop.
+/// Appends a jump table, and the statements that set the state according to the table. Called for
+/// the shape with a loop over the current state.
 fn push_step(text: &mut String, table: &[u32; 256], shape: Config) -> Result<(), Memory>
     ensures { OnOk result (Grows (string_bytes text.old) (string_bytes text.new)) }
 {
@@ -97,8 +96,8 @@ fn targets_of(alloc: Global, table: &[u32; 256]) -> Result<Vec<u32>, Memory> {
     Ok(targets)
 }
 
-/// Appends the name of the state with the number `target` as the element at the index `n` of a
-/// list, with a comma before each element but the first.
+/// Appends the name of the state with the number `target` to a list. A comma precedes the name
+/// unless `n`, the index of the name in the list, is 0.
 fn push_next_name(text: &mut String, n: usize, target: u32) -> Result<(), Memory>
     ensures { OnOk result (Grows (string_bytes text.old) (string_bytes text.new)) }
 {
@@ -117,8 +116,8 @@ fn push_next_names(text: &mut String, targets: &[u32]) -> Result<(), Memory>
     Ok(())
 }
 
-/// Appends the match arm that calls the state with the number `target` as the element at the index
-/// `n` of a list, with a comma before each element but the first.
+/// Appends the match arm that calls the state with the number `target` to a list. A comma precedes
+/// the arm unless `n`, the index of the arm in the list, is 0.
 fn push_next_arm(text: &mut String, n: usize, target: u32, shape: Config) -> Result<(), Memory>
     ensures { OnOk result (Grows (string_bytes text.old) (string_bytes text.new)) }
 {
@@ -138,7 +137,7 @@ fn push_next_arms(text: &mut String, targets: &[u32], shape: Config) -> Result<(
     Ok(())
 }
 
-/// Appends an enum of the targets of a jump table, and the table up to its last entry.
+/// Appends an enum of the targets of a jump table, and the table without its closing brackets.
 fn push_next_table(
     text: &mut String,
     table: &[u32; 256],
@@ -159,8 +158,8 @@ fn push_next_table(
     push_jumps(text, table, shape)
 }
 
-/// Appends a jump table and the call of the target's function, in the shape with a function for
-/// each state.
+/// Appends a jump table, and the calls of the targets' functions. Called for the shape with a
+/// function for each state.
 fn push_call(
     alloc: Global,
     text: &mut String,

@@ -1,5 +1,5 @@
-//! Prints the beginning of the implementation of `Logos`, before the body of the function that
-//! lexes. Called by `code`.
+//! Printers of the beginning of the implementation of `Logos`, before the body of the function
+//! `lex`. `code` calls them.
 
 ghost use Rattle.std.specs.Prelude.{[], ◌++◌, OnOk, option_copied, option_map};
 ghost use Rattle.logos_text.specs.Views.{Prints, answer_text, around_value, core_text, error_type_runs, error_type_text, gap_after, head_runs, head_text, internals_text, lexer_end_text, lexer_text, library_text, library_twice};
@@ -13,7 +13,8 @@ use logos_token::token::{Ident, Tokens, print};
 use logos_type::{TypeExpr, print_type};
 use std::alloc::Global;
 
-/// The parts of the text around the body of a lexer that depend on the source of the lexer.
+/// The values that determine the text around the body of a lexer: the path of the library, and the
+/// types of errors, extras and inputs.
 #[derive(Clone, Copy)]
 pub struct Around<'t, 's> {
     /// The path of the `logos` library, or `None` for `::logos`.
@@ -25,12 +26,12 @@ pub struct Around<'t, 's> {
     pub error_type: Option<&'t TypeExpr<'s>>,
     /// The tokens of the type of extras, or `None` for `()`.
     pub extras: Option<Tokens<'t, 's>>,
-    /// The text of the type of inputs, with the gap after it.
+    /// The text of the type of inputs, with the gap after the text.
     pub source: &'static str,
 }
 
-/// Appends the text before the body of a lexer. `lead` is the text before the function that lexes,
-/// and `core` is the path of Rust's `core`, with the gap after it.
+/// Appends the text before the body of a lexer. `lead` is the text before the function `lex`, and
+/// `core` is the path of Rust's `core`, with the gap after the path.
 pub(crate) fn push_front(
     alloc: Global,
     sink: &mut Sink,
@@ -118,7 +119,7 @@ fn push_types(alloc: Global, sink: &mut Sink, around: Around<'_, '_>) -> Result<
     Ok(())
 }
 
-/// Appends the associated type of inputs.
+/// Appends the associated type `Source`, which is the type of inputs.
 fn push_source(sink: &mut Sink, source: &str) -> Result<(), Memory>
     ensures { OnOk result (Prints (source_text source.now) [] sink.old sink.new) }
 {
@@ -126,7 +127,7 @@ fn push_source(sink: &mut Sink, source: &str) -> Result<(), Memory>
     Ok(())
 }
 
-/// Appends the type of errors, and the gap after it.
+/// Appends the type of errors, and the gap after the type.
 fn push_error(alloc: Global, sink: &mut Sink, around: Around<'_, '_>) -> Result<(), Memory>
     ensures { OnOk result (Prints
         (error_type_text (option_map type_tree (option_copied around.entry.error_type))
@@ -185,7 +186,7 @@ fn push_typed_run(
     Ok(())
 }
 
-/// Appends a type that is written as the tokens `tokens`, or `()` for `None`, and the gap after the
+/// Appends the type with the tokens `tokens`, or `()` if `tokens` is `None`, and the gap after the
 /// type.
 fn push_type(alloc: Global, sink: &mut Sink, tokens: Option<Tokens<'_, '_>>) -> Result<(), Memory>
     ensures { OnOk result (Prints (type_text (option_map tokens_of tokens.entry))
@@ -197,7 +198,7 @@ fn push_type(alloc: Global, sink: &mut Sink, tokens: Option<Tokens<'_, '_>>) -> 
     }
 }
 
-/// Appends `lead` and the signature of the function that lexes.
+/// Appends `lead` and the signature of the function `lex`.
 fn push_signature(
     alloc: Global,
     sink: &mut Sink,
@@ -218,8 +219,8 @@ fn push_signature(
     Ok(())
 }
 
-/// Appends the part of a signature between the two paths of the library: the rest of the type of
-/// the lexer, and the beginning of the result type.
+/// Appends the text between the two paths of the library in a signature: the end of the lexer's
+/// type, and the beginning of the result type.
 fn push_answer(sink: &mut Sink, core: &str) -> Result<(), Memory>
     ensures { OnOk result (Prints (answer_text core.now) [] sink.old sink.new) }
 {
@@ -248,7 +249,7 @@ fn push_uses(
     Ok(())
 }
 
-/// Appends the import of the items of the library that only the body uses.
+/// Appends the import of the library's internal items that the body uses.
 fn push_internals(
     alloc: Global,
     sink: &mut Sink,
@@ -265,7 +266,7 @@ fn push_internals(
     Ok(())
 }
 
-/// Appends the imports of types of Rust's `core`.
+/// Appends the imports of `Result` and `Option` from Rust's `core`.
 fn push_core(sink: &mut Sink, core: &str) -> Result<(), Memory>
     ensures { OnOk result (Prints (core_text core.now) [] sink.old sink.new) }
 {
@@ -276,7 +277,7 @@ fn push_core(sink: &mut Sink, core: &str) -> Result<(), Memory>
     Ok(())
 }
 
-/// Appends the import of `Logos`, and a name for the type of the lexer.
+/// Appends the import of `Logos`, and `_Lexer`, an alias of the lexer's type.
 fn push_lexer(
     alloc: Global,
     sink: &mut Sink,
@@ -295,7 +296,7 @@ fn push_lexer(
     Ok(())
 }
 
-/// Appends the rest of the type of the lexer, after the path of the library.
+/// Appends the end of the lexer's type, which follows the path of the library.
 fn push_lexer_end(sink: &mut Sink, this: &str) -> Result<(), Memory>
     ensures { OnOk result (Prints (lexer_end_text this.now) [] sink.old sink.new) }
 {

@@ -1,5 +1,5 @@
-//! Prints the enum of the leaves, and the results of matches of the leaves. Used by `code` and
-//! `actions`.
+//! Printers of the enum of the leaves, and of the results of the leaves' matches. `code` and
+//! `actions` call them.
 
 ghost use Rattle.std.specs.Prelude.{[], OnOk, string_bytes};
 ghost use Rattle.logos_text.specs.Views.{Grows, Notes, flat_map, kind_runs, kind_value, leaf_runs, variant_runs};
@@ -34,8 +34,8 @@ fn push_each_leaf_name(text: &mut String, count: usize) -> Result<(), Memory>
     Ok(())
 }
 
-/// Appends the variant of the leaf with the number `leaf`, with a comma before each variant but the
-/// first.
+/// Appends the variant of the leaf with the number `leaf` to a list. A comma precedes the variant
+/// unless `leaf` is 0.
 fn push_leaf_name(text: &mut String, leaf: usize) -> Result<(), Memory>
     ensures { OnOk result (Grows (string_bytes text.old) (string_bytes text.new)) }
 {
@@ -174,7 +174,8 @@ pub(crate) fn push_variant(
     Ok(())
 }
 
-/// Appends the result of a match for the kind `kind`, computed from the result of the callback.
+/// Appends the code that computes the result of a match of the kind `kind` from the callback's
+/// result.
 fn push_result(
     alloc: Global,
     sink: &mut Sink,
@@ -193,7 +194,7 @@ fn push_result(
     }
 }
 
-/// Appends the result of a match of a skip, computed from the result of the callback.
+/// Appends the code that computes the result of a skip's match from the callback's result.
 fn push_skip_result(sink: &mut Sink, names: Names<'_>) -> Result<(), Memory>
     ensures { OnOk result (Notes [] sink.old sink.new) }
 {
@@ -205,8 +206,8 @@ fn push_skip_result(sink: &mut Sink, names: Names<'_>) -> Result<(), Memory>
     Ok(())
 }
 
-/// Appends the result of a match for a variant without a field, computed from the result of the
-/// callback.
+/// Appends the code that computes the result of a match from the callback's result, for the variant
+/// `variant`, which has no field.
 fn push_unit_result(sink: &mut Sink, variant: Ident<'_>, names: Names<'_>) -> Result<(), Memory>
     ensures { OnOk result (Notes (variant_runs names.entry.name variant.entry) sink.old sink.new) }
 {
@@ -220,8 +221,8 @@ fn push_unit_result(sink: &mut Sink, variant: Ident<'_>, names: Names<'_>) -> Re
     Ok(())
 }
 
-/// Appends the result of a match for a variant with a field of the type `field`, computed from the
-/// result of the callback.
+/// Appends the code that computes the result of a match from the callback's result, for the variant
+/// `variant` with a field of the type `field`.
 fn push_value_result(
     sink: &mut Sink,
     variant: Ident<'_>,

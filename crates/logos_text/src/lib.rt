@@ -1,4 +1,4 @@
-//! Prints a code value as generated code. Called by `logos_codegen`.
+//! Prints a `Code` as Rust text. Called by `logos_codegen`.
 
 #![tactic(auto)]
 

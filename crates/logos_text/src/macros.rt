@@ -1,4 +1,5 @@
-//! Prints the macros of a lexer, which precede its states. Called by `code`.
+//! Printers of the macros of a lexer. The macros precede the lexer's states. `code` calls the
+//! printers.
 
 ghost use Rattle.std.specs.Prelude.{OnOk, string_bytes};
 ghost use Rattle.logos_text.specs.Imports.{Grows};
@@ -56,8 +57,8 @@ pub(crate) fn push_take_action_macro(
     )
 }
 
-/// Appends the step that begins the next match attempt in the root. `root` is the number of the
-/// root.
+/// Appends the step that begins the next match attempt in the root, the state with the number
+/// `root`.
 fn push_restart(text: &mut String, root: usize, names: Names<'_>) -> Result<(), Memory>
     ensures { OnOk result (Grows (string_bytes text.old) (string_bytes text.new)) }
 {

@@ -1,12 +1,13 @@
-//! The names that all parts of generated code use. Created once, by `code`, for all printers.
+//! The type `Names`, which contains the shape of generated code and the name and the type of the
+//! enum. `code` creates one value of this type for all printers.
 
 ghost use Rattle.std.specs.Prelude.{◌≡◌};
 
 use logos_code::code::{CodeParts, Config};
 use logos_token::token::Ident;
 
-/// The values that all printers of a text use: the shape of the text, the name of the enum, and the
-/// printed type of the enum.
+/// The values that all printers of generated code use: the shape of the code, the name of the enum,
+/// and the printed type of the enum.
 #[derive(Clone, Copy)]
 pub(crate) struct Names<'p> {
     pub(crate) shape: Config,

@@ -1,11 +1,11 @@
-//! Appends parts to a text. Called by all printers.
+//! Functions that append texts to generated code. All printers call them.
 
 ghost use Rattle.std.specs.Prelude.{◌≡◌, ◌==◌, ◌++◌, OnOk, codes, if◌then◌else◌, string_bytes};
 ghost use Rattle.logos_text.specs.Imports.{Grows};
 
 use logos_token::error::Memory;
 
-/// Appends `part` to the text.
+/// Appends `part` to `text`.
 pub(crate) fn push_str(text: &mut String, part: &str) -> Result<(), Memory>
     ensures { OnOk result (string_bytes text.new ≡ string_bytes text.old ++ part.now) }
 {
@@ -13,7 +13,7 @@ pub(crate) fn push_str(text: &mut String, part: &str) -> Result<(), Memory>
     Ok(())
 }
 
-/// Appends `part` to the text. Called for parts that are neither conditions nor tables.
+/// Appends `part` to `text`. Called for texts that are neither conditions nor tables.
 pub(crate) fn push(text: &mut String, part: &str) -> Result<(), Memory>
     ensures { OnOk result (Grows (string_bytes text.old) (string_bytes text.new)) }
 {

@@ -1,5 +1,5 @@
-//! The output of printers: a text, and the pieces of the source in the text. Created by `code`, and
-//! written by all printers of a user's tokens.
+//! The output of printers: a text, and the pieces of the source in the text. `code` creates a sink,
+//! and all printers of a user's tokens write to the sink.
 
 ghost use Rattle.std.specs.Prelude.{[], OnOk};
 ghost use Rattle.logos_text.specs.Views.{IsEmptySink, Prints, PrintsPiece, name_runs, noted_runs, printed, run_after, tokens_of};
@@ -37,7 +37,7 @@ pub struct Sink {
     /// The pieces, in the order in which they occur in the text. No two pieces overlap.
     pub pieces: Vec<Piece>,
     /// The statements that call callbacks, in the order in which they occur in the text. No
-    /// contract describes them.
+    /// contract describes this list.
     pub calls: Vec<Call>,
 }
 
@@ -53,7 +53,7 @@ impl Sink {
         }
     }
 
-    /// Appends a text that is not part of the source.
+    /// Appends `part`, a text that does not come from the source.
     pub(crate) fn push(&mut self, part: &str) -> Result<(), Memory>
         ensures { OnOk result (Prints part.now [] self.old self.new) }
     {
@@ -104,7 +104,7 @@ impl Sink {
         Ok(())
     }
 
-    /// Records that the statement that is appended next calls `callback`.
+    /// Records that the next statement appended to the sink calls `callback`.
     pub(crate) fn note_call(&mut self, callback: &Callback<'_>) -> Result<(), Memory>
         ensures { OnOk result (Prints [] [] self.old self.new) }
     {

@@ -1,5 +1,5 @@
-//! Prints the states of a lexer, as match arms of a loop or as one function for each state. Called
-//! by `code`.
+//! Printers of the states of a lexer, as match arms of a loop or as one function for each state.
+//! `code` calls them.
 
 ghost use Rattle.std.specs.Prelude.{OnOk, map, string_bytes};
 ghost use Rattle.logos_text.specs.Imports.{flat_map, state_of, Adds, Grows, state_texts};
@@ -57,8 +57,8 @@ fn push_nothing_read(text: &mut String, is_root: bool) -> Result<(), Memory>
     push(text, "if lex . offset ( ) == offset { return None } ")
 }
 
-/// Appends the step to the state with the number `at_end` at the end of the input, or nothing for
-/// `None`.
+/// Appends the step that a state takes at the end of the input. The step leads to the state with
+/// the number `at_end`. Appends nothing if `at_end` is `None`.
 fn push_at_end(text: &mut String, at_end: Option<usize>, shape: Config) -> Result<(), Memory>
     ensures { OnOk result (Grows (string_bytes text.old) (string_bytes text.new)) }
 {
@@ -170,8 +170,8 @@ fn push_state_names(alloc: Global, text: &mut String, count: usize) -> Result<()
     Ok(())
 }
 
-/// Appends `name` as the element at the index `n` of a list of names, with a comma before each
-/// element but the first.
+/// Appends `name` to a list of names. A comma precedes the name unless `n`, the index of the name
+/// in the list, is 0.
 fn push_state_name(text: &mut String, n: usize, name: &str) -> Result<(), Memory>
     ensures { OnOk result (Grows (string_bytes text.old) (string_bytes text.new)) }
 {

@@ -1,5 +1,5 @@
-//! Prints the bit tables, which the conditions of states name. Called by `code` before it prints
-//! the states.
+//! Printers of the bit tables to which the conditions of states refer. `code` calls `push_tables`
+//! before it prints the states.
 
 ghost use Rattle.std.specs.Prelude.{◌≡◌, ◌++◌, ◌∷◌, [], OnOk, codes, string_bytes};
 ghost use Rattle.logos_text.specs.Imports.{flat_map, join_by, entry_text, table_text, table_texts, Adds};
@@ -24,7 +24,7 @@ fn push_next_entry(text: &mut String, entry: u8) -> Result<(), Memory>
     push_entry(text, entry)
 }
 
-/// Appends entries of a bit table, each after a comma.
+/// Appends entries of a bit table, each preceded by a comma.
 fn push_next_entries(text: &mut String, entries: &[u8]) -> Result<(), Memory>
     ensures { OnOk result (string_bytes text.new ≡ string_bytes text.old
         ++ flat_map (λ entry. codes " , " ++ entry_text entry) entries.now) }

@@ -1,5 +1,5 @@
-//! The list of the faults found in a source. Every crate that reads a source adds its faults to an
-//! `Errors`.
+//! The faults found in a source, and the list `Errors`, which collects them. Every crate that reads
+//! a source adds its faults to an `Errors`.
 
 mod detail;
 mod fault_code;
@@ -13,7 +13,7 @@ use std::error::Error;
 use std::fmt;
 use std::marker::Model;
 
-/// The error of a call that ran out of memory.
+/// The error of a function that ran out of memory.
 #[derive(Clone, Copy, Debug, PartialEq, Eq)]
 pub struct Memory;
 
@@ -45,7 +45,7 @@ pub struct SpannedError {
     pub span: Span,
     /// The second span of a fault about two spans, or `None` if the fault is about one span.
     pub also: Option<Span>,
-    /// The detail of the fault.
+    /// The typed data of the fault, or `Plain` if there is none.
     pub detail: Detail,
 }
 
@@ -81,7 +81,7 @@ impl Errors {
         }
     }
 
-    /// Adds a fault without a second span and without a detail to the end of the list.
+    /// Appends a fault to the list. The fault has the span `span`, no second span and no detail.
     ///
     /// # Errors
     ///
@@ -99,7 +99,8 @@ impl Errors {
         self.add(code, message, span, None, Detail::Plain)
     }
 
-    /// Adds a fault with the detail `detail` to the end of the list.
+    /// Appends a fault to the list. The fault has the span `span`, no second span and the detail
+    /// `detail`.
     ///
     /// # Errors
     ///
@@ -123,7 +124,7 @@ impl Errors {
         self.add(code, message, span, None, detail)
     }
 
-    /// Adds a fault with the spans `span` and `also` to the end of the list.
+    /// Appends a fault to the list. The fault has the spans `span` and `also` and no detail.
     ///
     /// # Errors
     ///
@@ -147,7 +148,7 @@ impl Errors {
         self.add(code, message, span, Some(also), Detail::Plain)
     }
 
-    /// Adds the faults of `more` to the end of the list, in their order.
+    /// Appends the faults of `more` to the list, in the order in which `more` contains them.
     ///
     /// # Errors
     ///
@@ -172,7 +173,7 @@ impl Errors {
         &self.collected
     }
 
-    /// Adds a fault to the end of the list. After an error the list is unchanged.
+    /// Appends a fault to the list. If memory runs out, the list is unchanged.
     fn add(
         &mut self,
         code: FaultCode,

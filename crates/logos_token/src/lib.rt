@@ -1,5 +1,5 @@
-//! Reads a source text into tokens with their spans, collects the faults found in the source, and
-//! provides small helpers for tokens and faults. All crates that read sources use this crate.
+//! The tokens of a source with their spans, the faults found in a source, and helper functions for
+//! both. All crates that read sources use this crate.
 
 #![tactic(auto)]
 

@@ -1,4 +1,4 @@
-//! The tokens of a source text. `reader` creates them, and `views` provides access to them. Every
+//! The tokens of a source text. `reader` creates tokens, and `views` provides access to them. Every
 //! crate that reads sources uses this module.
 
 mod entry;

@@ -1,4 +1,4 @@
-//! Small helpers for tokens. The readers of enums and attributes call them.
+//! Helper functions that compare and convert tokens. The readers of enums and attributes call them.
 
 ghost use Rattle.std.specs.Prelude.{◌≡◌, IfOk, string_bytes};
 ghost use Rattle.logos_token.specs.ViewImports.{tree_of, is_alone, unless_alone, maybe_printed};
@@ -43,7 +43,7 @@ pub fn expect_punct<'t, 's>(
     }
 }
 
-/// A conversion to an identifier.
+/// A conversion of a text to an identifier.
 pub trait ToIdent<'a> {
     /// Returns the identifier with this text. The identifier does not occur in the source, and its
     /// span is `0..0`.

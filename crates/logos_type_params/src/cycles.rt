@@ -10,14 +10,15 @@ mod reference;
 
 use std::alloc::{AllocError, Global};
 
-/// Returns, for each node, whether it lies on a cycle. The list of a node is at the index of its
-/// number in `lists`, and contains the numbers of the nodes to which its edges lead. Numbers
-/// without a node are ignored.
+/// Returns, for each node, whether the node lies on a cycle. The index of a list in `lists` is the
+/// number of a node, and the list contains the numbers of the nodes to which this node's edges
+/// lead. Numbers without a node are ignored.
 ///
-/// Two traversals find the strongly connected components of the graph, and the components are
-/// checked before the result is read from them. This takes time linear in the numbers of nodes and
-/// edges. The check has never been observed to fail. If the check fails, a traversal from each node
-/// computes the same result, in time that grows with the product of the two numbers.
+/// Two traversals find the strongly connected components of the graph. The components are checked
+/// before the result is read from them. This takes time linear in the numbers of nodes and edges.
+/// The check has never been observed to fail. If the check fails, a traversal from each node
+/// computes the same result, in time that grows with the product of the number of nodes and the
+/// number of edges.
 ///
 /// # Errors
 ///

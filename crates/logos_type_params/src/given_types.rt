@@ -61,8 +61,8 @@ impl<'s> GivenTypes<'s> {
         self.entries.as_slice()
     }
 
-    /// Assigns the type `param` to the name `text`. If the name already has a type, the new type
-    /// replaces the old one at its index.
+    /// Assigns the type `param` to the name `text`. If the name already has a type, `param`
+    /// replaces this type at the same index.
     ///
     /// # Errors
     ///
@@ -83,8 +83,8 @@ impl<'s> GivenTypes<'s> {
         }
     }
 
-    /// Appends the name `text` with the type `param`. The name has no type yet. After an error the
-    /// types are unchanged.
+    /// Appends the name `text` with the type `param`. The name must not have a type. After an
+    /// error, the types are unchanged.
     fn add(&mut self, text: &'s str, param: TypeParam<'s>) -> Result<(), Memory>
         requires { slot_in self.old.entries.items text.now ≡ None }
         ensures ok { OnOk result

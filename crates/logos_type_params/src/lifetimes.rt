@@ -1,5 +1,5 @@
 //! Sets the lifetimes of types to `'s`. `type_params` calls `set_lifetimes` for each type that is
-//! given to a parameter, and users of the library call the other functions.
+//! given to a parameter, and users of the library call `replace_lifetime` and `replace_lifetimes`.
 
 ghost use Rattle.std.specs.Prelude.{◌≡◌, map, IfOk};
 ghost use Rattle.logos_type_params.specs.Views.{whole, trees, tree_of, type_tree, with_lifetimes, with_lifetime, own_lifetime};
@@ -58,7 +58,7 @@ fn set_each<'s>(alloc: Global, parts: &[TypePart<'s>]) -> Result<TypePart<'s>, A
 /// Returns a copy of the type with lifetimes set to `'s` at any depth.
 ///
 /// This sets the lifetimes of references, and the lifetimes among the angle-bracketed arguments of
-/// paths that are types. A reference without a lifetime receives one. Other lifetimes are
+/// paths that are types. If a reference has no lifetime, `'s` is added. Other lifetimes are
 /// unchanged, such as the lifetimes of `dyn` and `for<..>`. Parts that are never replaced are also
 /// unchanged, such as the type before `as`.
 ///
@@ -75,9 +75,11 @@ pub fn replace_lifetimes<'s>(
     Ok(TypeExpr { part })
 }
 
-/// Returns a copy of the type with its own lifetimes set to `'s`. For a reference, this sets its
-/// lifetime, or adds one if there is none. For a path that is a type, this sets the lifetimes among
-/// its angle-bracketed arguments. Any other type and all inner types are unchanged.
+/// Returns a copy of the type with its own lifetimes set to `'s`.
+///
+/// For a reference, this sets the lifetime after `&`, or adds `'s` if the reference has no
+/// lifetime. For a path that is a type, this sets the lifetimes among the angle-bracketed arguments
+/// of the path. All other types are unchanged, as are types inside the type.
 ///
 /// # Errors
 ///

@@ -62,8 +62,8 @@ pub fn report_about_with(
     Ok(())
 }
 
-/// Reports the span `at` of an earlier value. The fault that refers to this value has been reported
-/// before.
+/// Reports the span `at` of an earlier value. The fault that refers to this value must have been
+/// reported before.
 ///
 /// # Errors
 ///

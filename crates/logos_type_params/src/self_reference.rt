@@ -10,8 +10,8 @@ use crate::given_types::GivenTypes;
 use logos_type::TypePart;
 use std::alloc::{AllocError, Global};
 
-/// The types given to the parameters, and for each type, whether a chain of types leads back to its
-/// name.
+/// The types given to the parameters, and the names from which a chain of types leads back to the
+/// same name.
 #[derive(Drop)]
 pub(crate) struct Chains<'p, 's> {
     /// The types given to the names.

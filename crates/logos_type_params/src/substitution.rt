@@ -108,8 +108,8 @@ pub fn type_after<'s>(
     }
 }
 
-/// Returns a copy of `part`, a part that is never replaced. Returns `LimitNesting` if `part` has
-/// more than `levels` nested types.
+/// Returns a copy of `part` in which nothing is replaced. Returns `LimitNesting` if `part` has more
+/// than `levels` nested types.
 fn still_after<'s>(levels: u32, part: &TypePart<'s>) -> Result<TypePart<'s>, TypeFault>
     ensures ok { IfOk result (λ after. (tree_of after ≡ tree_of part.now)
         × (exceeds levels (tree_of part.now) ≡ false)) }

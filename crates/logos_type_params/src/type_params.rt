@@ -39,8 +39,8 @@ fn report_syntax(errors: &mut Errors, at: Span) -> Result<(), Memory>
     errors.err(FaultCode::TypeSyntax, "not a type", at)
 }
 
-/// Reports `fault`, the reason why `run` is not a type, at the span `at`. If `fault` is `Memory`,
-/// returns `Memory` without a report.
+/// Reports `fault` at the span `at`. `fault` is the reason why `run` is not a type. If `fault` is
+/// `Memory`, returns `Memory` without a report.
 fn report_no_type(
     fault: TypeFault,
     run: Tokens<'_, '_>,
@@ -59,8 +59,8 @@ fn report_no_type(
     }
 }
 
-/// Returns `type_expr` if `rest`, the run of the tokens after the type, is empty. Otherwise reports
-/// at the span `at` that `run` is not a type, and returns `None`.
+/// Returns `type_expr` if `rest` is empty. Otherwise, reports at the span `at` that `run` is not a
+/// type, and returns `None`. `rest` contains the tokens of `run` after the type.
 fn whole_type<'s>(
     type_expr: TypeExpr<'s>,
     rest: Tokens<'_, 's>,
@@ -80,8 +80,9 @@ fn whole_type<'s>(
     Ok(None)
 }
 
-/// Reads the whole run as a type. If the run is not a type, reports `TypeSyntax` at the span `at`
-/// and returns `None`. If too many types are nested in the run, reports `LimitTypeNesting` instead.
+/// Reads all tokens of `run` as one type. Reports `LimitTypeNesting` at the span `at` if too many
+/// types are nested in `run`, and `TypeSyntax` at this span if `run` is not a type for another
+/// reason. In both cases, returns `None`.
 ///
 /// # Errors
 ///
@@ -105,7 +106,7 @@ pub fn read_value<'s>(
     }
 }
 
-/// Reports the lifetime at `span` if `is_declared` is `true`, which means that another lifetime is
+/// Reports a second lifetime at `span` if `is_declared` is `true`. In this case, a lifetime is
 /// already declared.
 fn report_second_lifetime(is_declared: bool, span: Span, errors: &mut Errors) -> Result<(), Memory>
     ensures ok { OnOk result (errors.new ≡ errors.old ++
@@ -152,7 +153,7 @@ fn report_twice(name: Ident<'_>, former: Span, errors: &mut Errors) -> Result<()
 }
 
 /// Reports a second type for `name` if the name already has a type. `former` is the span of the
-/// first type, or `None` if there is none. After an error the faults are unchanged.
+/// first type, or `None` if the name has no type. After an error, the faults are unchanged.
 fn report_given(name: Ident<'_>, former: Option<Span>, errors: &mut Errors) -> Result<(), Memory>
     ensures ok { OnOk result (errors.new
         ≡ errors.old ++ given_faults former (named_of name.entry)) }
@@ -265,10 +266,16 @@ impl<'s> TypeParams<'s> {
         Ok(())
     }
 
-    /// Reads `value` as a type and assigns the type to the parameter `name`. Reports `TypeSyntax`
-    /// or `LimitTypeNesting` if `value` is not a type, and `NotTypeParameter` if `name` is not
-    /// declared. In both cases no type is assigned. If the parameter already has a type, reports
-    /// `TypeTwice` with the span of the first type, and assigns the second type.
+    /// Reads `value` as a type and assigns the type to the parameter `name`.
+    ///
+    /// Reports:
+    ///
+    /// - `TypeSyntax` if `value` is not a type.
+    /// - `LimitTypeNesting` if too many types are nested in `value`.
+    /// - `NotTypeParameter` if `name` is not declared.
+    /// - `TypeTwice` with the span of the first type if the parameter already has a type.
+    ///
+    /// In the last case, the second type is assigned. In the other cases, no type is assigned.
     ///
     /// # Errors
     ///

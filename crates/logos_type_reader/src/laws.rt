@@ -1,10 +1,11 @@
-//! Laws of reading types. No code calls these functions: the contract of each is a proved law.
+//! States laws of reading types. No code calls the functions of this module: the contract of each
+//! function is a proved law.
 
 ghost use Rattle.std.specs.Prelude.{◌≡◌, ◌<◌, ◌≤◌, ◌⊎◌, ℕ, Bool, true};
 ghost use Rattle.logos_type_reader.specs.Views.{TokenList, IsRestOf, count_of, Tree, depth, Fault, too_deep, IsType, NoType, Ending, Written, may_follow, FaultStage, IsAt, SameSign, IsTypeExpr, NoTypeExpr};
 
 /// A run begins with at most one type, and has one rest after that type. A run has at most one
-/// fault, and none if it begins with a type.
+/// fault, and has no fault if the run begins with a type.
 pub fn one_outcome()
     ensures one_type { (run rest other : TokenList) (tree different : Tree) →
         IsTypeExpr run tree rest → IsTypeExpr run different other → (tree ≡ different)
@@ -21,8 +22,8 @@ pub fn some_outcome()
         × IsTypeExpr run tree rest) ⊎ ((fault : Fault) × NoTypeExpr run fault) }
 {}
 
-/// Reading with two different limits yields the same type, unless one limit is less than the depth
-/// of the type.
+/// Reading a run with two different limits yields one type, unless types are nested too deeply for
+/// the lower limit.
 pub fn levels_only_limit()
     ensures one_type { (levels others : ℕ) (plus : Bool) (run rest other : TokenList)
         (tree different : Tree) →
@@ -34,7 +35,8 @@ pub fn levels_only_limit()
         × (levels < others) }
 {}
 
-/// A type exceeds a limit if and only if its depth is greater than the limit.
+/// A type can be read within a limit if and only if the depth of the type is at most the limit.
+/// With a limit below this depth, the fault is that types are nested too deeply.
 pub fn limit_is_depth()
     ensures within { (levels : ℕ) (plus : Bool) (run rest : TokenList) (tree : Tree) →
         IsType levels plus run tree rest → depth tree ≤ levels }
@@ -44,7 +46,8 @@ pub fn limit_is_depth()
         IsType levels plus run tree rest → others < depth tree → NoType others plus run too_deep }
 {}
 
-/// The tokens after a type are the run without one or more tokens at its start.
+/// The tokens after a type are the run that begins with the type, without one or more tokens at its
+/// start.
 pub fn type_is_front()
     ensures rest { (run rest : TokenList) (tree : Tree) → IsTypeExpr run tree rest →
         IsRestOf run rest }
@@ -69,7 +72,8 @@ pub fn read_is_written()
 {}
 
 /// Each fault has a spot in its run, unless the fault is that types are nested too deeply. No run
-/// with the same tokens before this spot and the same sign at the spot begins with a written type.
+/// that agrees with this run before the spot and in the sign at the spot begins with a written
+/// type. A sign is a token, together with the next sign after joint punctuation.
 pub fn fault_stage()
     ensures stage { (levels : ℕ) (plus : Bool) (run : TokenList) (fault : Fault) →
         NoType levels plus run fault → (fault ≡ too_deep) ⊎ FaultStage levels plus run fault }

@@ -63,8 +63,8 @@ fn add_leaf<'s>(leaf: TypeToken<'s>, parts: &mut Vec<TypePart<'s>>) -> Result<()
     Ok(())
 }
 
-/// Adds the tokens of `run` to `parts` without reading types in the run. For a group, adds its
-/// delimiters and the tokens between the delimiters.
+/// Adds the tokens of `run` to `parts` without reading types in the run. For a group, adds the
+/// delimiters of the group and the tokens between the delimiters.
 #[cycle(keeping)]
 fn keep_tokens<'s>(run: Tokens<'_, 's>, parts: &mut Vec<TypePart<'s>>) -> Result<(), AllocError>
     ensures { OnOk result (map tree_of parts.new.items ≡
@@ -78,8 +78,8 @@ fn keep_tokens<'s>(run: Tokens<'_, 's>, parts: &mut Vec<TypePart<'s>>) -> Result
     Ok(())
 }
 
-/// Adds the token `tree` to `parts` without reading types. For a group, adds its delimiters and the
-/// tokens between the delimiters.
+/// Adds the token `tree` to `parts` without reading types. If `tree` is a group, adds the
+/// delimiters of the group and the tokens between the delimiters.
 #[cycle(keeping)]
 fn keep_token<'s>(tree: TokenTree<'_, 's>, parts: &mut Vec<TypePart<'s>>) -> Result<(), AllocError>
     ensures { OnOk result (map tree_of parts.new.items ≡
@@ -142,8 +142,8 @@ fn begun_parts<'s>(alloc: Global, part: TypePart<'s>) -> Result<Vec<TypePart<'s>
     Ok(parts)
 }
 
-/// Adds `part` to `parts`. Returns `bars` and the spot `next`. `bars` is `true` if the part makes
-/// the type unsupported.
+/// Adds `part` to `parts`. Returns `bars` and the spot `next`. `bars` must be `true` if and only if
+/// `part` makes the type unsupported.
 fn move_past<'t, 's>(
     bars: bool,
     part: TypePart<'s>,
@@ -158,9 +158,9 @@ fn move_past<'t, 's>(
     Ok(Some((bars, next)))
 }
 
-/// Adds the tokens of `run` to `parts` as one part that is never replaced, without reading types in
-/// the run. Returns `false`, because the part does not make the type unsupported, and the spot
-/// `next`.
+/// Adds one part that is never replaced to `parts`. The part consists of the tokens of `run`, in
+/// which no types are read. Returns the spot `next`, with `false` because the part does not make
+/// the type unsupported.
 fn move_past_run<'t, 's>(
     alloc: Global,
     run: Tokens<'t, 's>,
@@ -179,8 +179,8 @@ fn move_past_run<'t, 's>(
     }
 }
 
-/// Adds `part` to `parts` as a part that is never replaced. Returns `false`, because the part does
-/// not make the type unsupported, and the spot `next`.
+/// Adds `part` to `parts` as a part that is never replaced. Returns the spot `next`, with `false`
+/// because the part does not make the type unsupported.
 fn move_past_still<'t, 's>(
     alloc: Global,
     part: TypePart<'s>,
@@ -198,9 +198,9 @@ fn move_past_still<'t, 's>(
     }
 }
 
-/// Reads the type at `spot` and adds the type to `parts`. Returns `false`, because the type is
-/// supported, and the spot after the type, with the stage `stage`. `levels` and `plus` have the
-/// same meaning as in `type_at`.
+/// Reads the type at `spot` and adds the type to `parts`. Returns the spot after the type, with the
+/// stage `stage`, and `false` because the type is supported. `levels` and `plus` have the same
+/// meaning as in `type_at`.
 #[cycle(types)]
 fn move_past_type<'t, 's>(
     alloc: Global,
@@ -221,7 +221,7 @@ fn move_past_type<'t, 's>(
 }
 
 /// Reads the type at `spot` and adds the type to `parts` as a part that is never replaced. Returns
-/// `false`, because the type is supported, and the spot after the type, with the stage `stage`.
+/// the spot after the type, with the stage `stage`, and `false` because the type is supported.
 /// `levels` has the same meaning as in `type_at`.
 #[cycle(types)]
 fn move_past_still_type<'t, 's>(
@@ -242,8 +242,8 @@ fn move_past_still_type<'t, 's>(
 }
 
 /// Adds the parts of a path or of bounds to `parts`. `opening` consists of the first token and the
-/// spot after this token. Returns whether a part makes the type unsupported, and the spot after the
-/// parts, with the stage `stage`.
+/// spot after this token. Returns the spot after the parts, with the stage `stage`, and a `bool`
+/// that is `true` if one of the parts makes the type unsupported.
 #[cycle(types)]
 fn move_past_nest<'t, 's>(
     alloc: Global,
@@ -265,9 +265,9 @@ fn move_past_nest<'t, 's>(
     }
 }
 
-/// Adds the parts of `step`, the next step at `spot`, to `parts`. Returns whether one of these
-/// parts makes the type unsupported, and the spot after the parts. Returns `None` if the step ends
-/// the construct.
+/// Adds the parts of `step`, the next step at `spot`, to `parts`. Returns the spot after these
+/// parts, and a `bool` that is `true` if one of these parts makes the type unsupported. Returns
+/// `None` if the step ends the construct.
 #[cycle(types)]
 fn make_step<'t, 's>(
     alloc: Global,
@@ -293,9 +293,9 @@ fn make_step<'t, 's>(
     }
 }
 
-/// Adds the parts of the next step at `spot` to `parts`. Returns whether one of these parts makes
-/// the type unsupported, and the spot after the parts. Returns `None` if the construct ends at
-/// `spot`.
+/// Adds the parts of the next step at `spot` to `parts`. Returns the spot after these parts, and a
+/// `bool` that is `true` if one of these parts makes the type unsupported. Returns `None` if the
+/// construct ends at `spot`.
 #[cycle(types)]
 fn move_on<'t, 's>(
     alloc: Global,
@@ -312,8 +312,8 @@ fn move_on<'t, 's>(
     }
 }
 
-/// Adds the parts of a construct from the spot `from` on to `parts`. Returns whether one of these
-/// parts makes the type unsupported, and the tokens after the construct.
+/// Adds the parts of a construct from the spot `from` on to `parts`. Returns the tokens after the
+/// construct, and a `bool` that is `true` if one of these parts makes the type unsupported.
 #[cycle(types)]
 fn parts_at<'t, 's>(
     alloc: Global,
@@ -343,8 +343,8 @@ fn span_before<'t, 's>(tokens: Tokens<'t, 's>, rest: Tokens<'t, 's>) -> Span
     front.span()
 }
 
-/// Reads the type at the start of `tokens`, where the type is more than a name. Returns the type
-/// and the tokens after it. `levels` and `plus` have the same meaning as in `type_at`.
+/// Reads the type at the start of `tokens`, which must be more than a name. Returns the type and
+/// the tokens after the type. `levels` and `plus` have the same meaning as in `type_at`.
 #[cycle(types)]
 fn formed_at<'t, 's>(
     alloc: Global,
@@ -378,7 +378,7 @@ fn formed_at<'t, 's>(
     Ok((TypePart::Whole(parts), rest))
 }
 
-/// Reads the type at the start of `tokens`. Returns the type and the tokens after it. At most
+/// Reads the type at the start of `tokens`. Returns the type and the tokens after the type. At most
 /// `levels` types can be nested, including the outermost type. `+` joins bounds only if `plus` is
 /// `true`.
 #[cycle(types)]
@@ -401,7 +401,7 @@ pub(crate) fn type_at<'t, 's>(
     Ok((TypePart::Name(name), rest))
 }
 
-/// Reads the type at the start of `tokens`. Returns the type and the tokens after it.
+/// Reads the type at the start of `tokens`. Returns the type and the tokens after the type.
 ///
 /// # Errors
 ///

@@ -1,5 +1,5 @@
-//! The grammar of types, which determines the next step at each spot inside a type. The reader of
-//! types calls `next_at` at each spot.
+//! Defines the grammar of types, which determines the next step at each spot inside a type.
+//! `reader` calls `next_at` at each spot.
 
 ghost use Rattle.std.specs.Prelude.{IsTrue};
 ghost use Rattle.logos_type_reader.specs.Views.{tokens_of, next_at, outside_of, spot_of, IsStep, IsAction, is_in_bounds};
@@ -35,7 +35,7 @@ use paths::{
 pub(crate) use stage::{Spot, Stage, StepFault, TypeStep};
 use stage::{BoundKind, Next, Outside, PathKind, TableEntry};
 
-/// Returns the action at a spot inside a type, or the fault if no action fits.
+/// Returns the table entry for a spot inside a type, or the fault if no entry fits.
 #[tactic(auto, unfolding(crate::specs::Table::next_at))]
 fn action_at(at: &Spot<'_, '_>) -> Next
     ensures { IsAction result (spot_of at.now)
@@ -74,8 +74,8 @@ fn action_at(at: &Spot<'_, '_>) -> Next
     }
 }
 
-/// Returns the action at a spot in a bound, in `for<..>` or in a function type, or the fault if no
-/// action fits.
+/// Returns the table entry for a spot in a bound, in `for<..>` or in a function type, or the fault
+/// if no entry fits.
 #[tactic(auto, unfolding(crate::specs::Table::next_at))]
 fn bound_action_at(at: &Spot<'_, '_>) -> Next
     requires { IsTrue (is_in_bounds at.now.stage) }

@@ -28,8 +28,8 @@ fn begins_with_colon(tokens: Tokens<'_, '_>) -> bool
     }
 }
 
-/// Returns the name of an attribute, or `None` if its path is not a single identifier. `tokens` are
-/// the tokens between the brackets of the attribute.
+/// Returns the name of an attribute, or `None` if the path of the attribute is not a single
+/// identifier. `tokens` are the tokens between the brackets of the attribute.
 fn name_in<'s>(tokens: Tokens<'_, 's>) -> Option<&'s str>
     ensures { MatchOption result (name_in (tokens_of tokens.entry) ≡ None)
         (λ name. name_in (tokens_of tokens.entry) ≡ Some name.now) }
@@ -40,8 +40,8 @@ fn name_in<'s>(tokens: Tokens<'_, 's>) -> Option<&'s str>
     }
 }
 
-/// Returns the name of an attribute, or `None` if the attribute has no brackets or its path is not
-/// a single identifier.
+/// Returns the name of an attribute. Returns `None` if the attribute has no brackets, or if the
+/// path of the attribute is not a single identifier.
 pub(crate) fn name_of<'s>(attribute: Attribute<'_, 's>) -> Option<&'s str>
     ensures { MatchOption result (name_of (attribute_value attribute.entry) ≡ None)
         (λ name. name_of (attribute_value attribute.entry) ≡ Some name.now) }

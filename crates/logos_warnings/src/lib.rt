@@ -1,5 +1,5 @@
-//! Finds probable mistakes, which are not faults, in the enums of a file. Called by the programs
-//! and the derive macro.
+//! Finds probable mistakes in the enums of a file. These mistakes are not faults. Used by the
+//! programs and the derive macro.
 
 #![tactic(auto)]
 

@@ -128,8 +128,8 @@ fn warnings_about(
     Ok(warnings)
 }
 
-/// Appends the warning for a mistake in the enum `name` to `warnings`, if the mistake is a warning
-/// for `origin`.
+/// Appends the warning for a mistake in the enum `name` to `warnings`. Appends nothing if the
+/// mistake is not a warning for `origin`.
 fn add_about(
     name: &str,
     mistake: Mistake<'_>,
@@ -169,7 +169,7 @@ fn message_of(alloc: Global, name: &str, mistake: Mistake<'_>) -> Result<String,
     }
 }
 
-/// Returns the message about `name`, a misspelling of `intended`.
+/// Returns the message that `name` looks like a misspelling of `intended`.
 fn misspelled_text(alloc: Global, name: &str, intended: &str) -> Result<String, AllocError>
     ensures { IfOk result (λ message. string_bytes message ≡ codes "`" ++ (name.now
         ++ (codes "` looks like a misspelling of `" ++ (intended.now ++ codes "`")))) }
@@ -178,7 +178,7 @@ fn misspelled_text(alloc: Global, name: &str, intended: &str) -> Result<String, 
     Ok(message)
 }
 
-/// Returns the message about the enum `name`, which has no patterns.
+/// Returns the message that no variant of the enum `name` has a pattern.
 fn no_pattern_text(alloc: Global, name: &str) -> Result<String, AllocError>
     ensures { IfOk result (λ message. string_bytes message
         ≡ codes "no variant of `" ++ (name.now ++ codes "` has a pattern")) }
@@ -187,8 +187,7 @@ fn no_pattern_text(alloc: Global, name: &str) -> Result<String, AllocError>
     Ok(message)
 }
 
-/// Returns the message about the enum `name`, which has attributes of a lexer but does not derive
-/// `Logos`.
+/// Returns the message that the enum `name` has attributes of a lexer but does not derive `Logos`.
 fn no_derive_text(alloc: Global, name: &str) -> Result<String, AllocError>
     ensures { IfOk result (λ message. string_bytes message ≡ codes "`" ++ (name.now
         ++ codes "` has attributes of a lexer and does not derive `Logos`")) }
@@ -213,7 +212,7 @@ fn span_of(mistake: Mistake<'_>) -> Span
     }
 }
 
-/// Returns the help for a mistake, or `None` if there is none.
+/// Returns the help for a mistake, or `None` if the mistake has no help.
 fn help_for(mistake: Mistake<'_>) -> Option<&'static str> {
     match mistake {
         Mistake::Misspelled { .. } => None,

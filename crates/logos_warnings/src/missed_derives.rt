@@ -1,5 +1,5 @@
-//! Warns about `derive` entries that name the derive macro but are ignored because their enum is
-//! not found or their path is unknown. Used by `logos_file_warnings`.
+//! Warns about `derive` entries that name the derive macro but are ignored, because the enum is not
+//! found or the path of the entry is unknown. Used by `logos_file_warnings`.
 
 ghost use Rattle.std.specs.Prelude.{All, IfOk};
 ghost use Rattle.logos_warnings.specs.Views.{IsPassedOver};
@@ -17,8 +17,8 @@ const HELP: &str =
     "write `derive(Logos)` or `derive(logos::Logos)` on an enum outside of functions and macros";
 
 /// Returns a warning for each `derive` list of a file that names the derive macro, with any path,
-/// and begins outside of the spans in `found`. `tokens` are the tokens of the file, and `found`
-/// contains the spans of the enums that were found to derive the macro, in order.
+/// and begins outside of the spans in `found`. `tokens` are the tokens of the file. `found`
+/// contains the spans of the enums that were found to derive the macro, in the order of the file.
 ///
 /// # Errors
 ///
@@ -35,8 +35,8 @@ pub fn passed_over(
     Ok(warnings_of(alloc, &derives, found)?)
 }
 
-/// Returns a warning for each span in `derives` that begins outside of the spans in `found`. The
-/// spans of both lists are in order.
+/// Returns a warning for each span in `derives` that begins outside of the spans in `found`. Both
+/// lists of spans must be in the order of the file.
 fn warnings_of(alloc: Global, derives: &[Span], found: &[Span]) -> Result<Vec<Warning>, AllocError>
     ensures { IfOk result (λ warnings. All IsPassedOver warnings.items) }
 {
@@ -72,8 +72,8 @@ fn begins_before(found: &[Span], offset: usize) -> bool {
     }
 }
 
-/// Searches a run and its groups for `derive` lists that contain the derive macro, and appends the
-/// spans of these lists to `found`.
+/// Searches a run, including its groups, for `derive` lists that contain the derive macro. Appends
+/// the spans of these lists to `found`.
 #[cycle(search)]
 fn search_run(run: Tokens<'_, '_>, found: &mut Vec<Span>) -> Result<(), AllocError> {
     let mut rest = run;
@@ -85,7 +85,7 @@ fn search_run(run: Tokens<'_, '_>, found: &mut Vec<Span>) -> Result<(), AllocErr
 }
 
 /// Appends the span of a `derive` list at the beginning of a run to `found`, as `add_derive` does.
-/// If the run begins with a group, appends the spans in the group.
+/// If the run begins with a group, appends the spans of the `derive` lists in the group.
 #[cycle(search)]
 fn search_first(run: Tokens<'_, '_>, found: &mut Vec<Span>) -> Result<(), AllocError> {
     add_derive(run, found)?;
@@ -95,8 +95,9 @@ fn search_first(run: Tokens<'_, '_>, found: &mut Vec<Span>) -> Result<(), AllocE
     }
 }
 
-/// Appends the span of the word `derive` and its list to `found` if a run begins with them and the
-/// list contains the derive macro.
+/// Appends the span of the word `derive` and the list after this word to `found`. Appends nothing
+/// if the run does not begin with `derive` and a list, or if the list does not contain the derive
+/// macro.
 fn add_derive(run: Tokens<'_, '_>, found: &mut Vec<Span>) -> Result<(), AllocError> {
     let Some(rest) = after_word("derive", run) else {
         return Ok(());

@@ -12,7 +12,8 @@ use logos_enum::{Attribute, ItemEnum, Variant, split_attribute};
 use logos_token::token::{Span, Tokens};
 use std::alloc::{AllocError, Global};
 
-/// A probable mistake in an enum, but not a fault. Spans are byte offsets in the text of the enum.
+/// A probable mistake in an enum, as opposed to a fault. Spans are byte offsets in the text of the
+/// enum.
 #[derive(Clone, Copy, Debug)]
 pub enum Mistake<'s> {
     /// The name of an attribute is similar to the name of a helper attribute.
@@ -27,7 +28,7 @@ pub enum Mistake<'s> {
         /// The span of the attribute.
         span: Span,
     },
-    /// An attribute has no effect at its site: `logos` on a variant.
+    /// An attribute has no effect at its site, because it is the attribute `logos` on a variant.
     Useless {
         /// The span of the attribute.
         span: Span,
@@ -52,8 +53,8 @@ pub enum Mistake<'s> {
 /// Returns the mistakes in an enum. `derives` is `true` if the enum derives `Logos`.
 ///
 /// The mistakes in the attributes of the enum and of its variants come first, in source order. The
-/// mistake `NoPattern` or `NoDerive` comes last, if it applies. An enum that neither derives
-/// `Logos` nor has helper attributes has no mistakes.
+/// mistake `NoPattern` or `NoDerive` comes last if the enum has this mistake. An enum that neither
+/// derives `Logos` nor has helper attributes has no mistakes.
 ///
 /// # Errors
 ///
@@ -209,7 +210,8 @@ fn is_conditional(site: AttributeSite, name: &str) -> bool
     }
 }
 
-/// Appends the mistake in an attribute at the site `site` to `warnings`, if there is one.
+/// Appends the mistake in an attribute at the site `site` to `warnings`. Appends nothing if the
+/// attribute has no mistake.
 fn report_attribute<'s>(
     site: AttributeSite,
     attribute: Attribute<'_, 's>,
@@ -224,8 +226,8 @@ fn report_attribute<'s>(
     }
 }
 
-/// Appends the mistake in an attribute at the site `site` to `warnings`, if there is one. The path
-/// of the attribute is not a single identifier.
+/// Appends the mistake in an attribute at the site `site` to `warnings`. Appends nothing if the
+/// attribute has no mistake. The path of the attribute must not be a single identifier.
 fn report_unnamed<'s>(
     site: AttributeSite,
     attribute: Attribute<'_, 's>,
@@ -242,8 +244,8 @@ fn report_unnamed<'s>(
     Ok(())
 }
 
-/// Appends the mistake in an attribute with the name `name` at the site `site` to `warnings`, if
-/// there is one.
+/// Appends the mistake in an attribute with the name `name` at the site `site` to `warnings`.
+/// Appends nothing if the attribute has no mistake.
 fn report_named<'s>(
     site: AttributeSite,
     attribute: Attribute<'_, 's>,

@@ -1,12 +1,12 @@
-//! Defines the origin of an enum, which determines the mistakes that are warnings. Used by
-//! `messages` and the crates that report warnings.
+//! Defines the origins of enums. The origin of an enum determines which of its mistakes are
+//! warnings. Used by `messages` and the crates that report warnings.
 
 ghost use Rattle.std.specs.Prelude.{◌≡◌};
 ghost use Rattle.logos_warnings.specs.Views.{is_warning, mistake_value};
 
 use crate::mistakes::Mistake;
 
-/// The origin of the text of an enum.
+/// The origin of an enum's text: a file, or the derive macro.
 #[derive(Clone, Copy, Debug, PartialEq, Eq)]
 pub enum Origin {
     /// A file.

@@ -1,5 +1,5 @@
-//! Warns about attributes of an enum and of its variants that a lexer ignores: `end`, an attribute
-//! of older lexers, and helper attributes under a condition. Used by `messages`.
+//! Warns about attributes of an enum and of its variants that a lexer ignores. These are the
+//! attribute `end` of older lexers, and helper attributes under a condition. Used by `messages`.
 
 ghost use Rattle.std.specs.Prelude.{OnOk, map};
 ghost use Rattle.logos_warnings.specs.Views.{AddsEach, IsAboutIgnored, IsAt, IsIgnored, IsIgnoredIn, IsIgnoredOn, attribute_value, enum_value, tokens_of, variant_value};
@@ -62,8 +62,8 @@ fn add_run(
     Ok(())
 }
 
-/// Appends the warning for an attribute to `warnings`, if there is one. `is_variant` is `true` if
-/// the attribute is on a variant.
+/// Appends the warning for an attribute to `warnings`. Appends nothing if there is no warning.
+/// `is_variant` is `true` if the attribute is on a variant, and `false` if it is on the enum.
 fn add_attribute(
     attribute: Attribute<'_, '_>,
     is_variant: bool,

@@ -1,5 +1,5 @@
-//! Creates warnings with a message, a span and optionally a help. Used by this crate,
-//! `logos_causes` and `logos_file_warnings`.
+//! Creates warnings with a message, a span and an optional help. Used by this crate, `logos_causes`
+//! and `logos_file_warnings`.
 
 ghost use Rattle.std.specs.Prelude.{◌≡◌, IfOk, string_bytes};
 
@@ -7,8 +7,8 @@ use logos_report::Warning;
 use logos_token::token::Span;
 use std::alloc::{AllocError, Global};
 
-/// Returns a warning with a copy of `message`, a span and a help, but without a note and a second
-/// span. `span` is in bytes of the source.
+/// Returns a warning with a copy of `message`, with the span `span` and with an optional help. The
+/// warning has no note and no second span. `span` is in bytes of the source.
 ///
 /// # Errors
 ///
@@ -26,8 +26,8 @@ pub fn fixed_warning(
     Ok(plain_warning(message, span, help))
 }
 
-/// Returns a warning with a message, a span and a help, but without a note and a second span.
-/// `span` is in bytes of the source.
+/// Returns a warning with a message, with the span `span` and with an optional help. The warning
+/// has no note and no second span. `span` is in bytes of the source.
 pub fn plain_warning(message: String, span: Span, help: Option<&'static str>) -> Warning
     ensures text { result.message ≡ message }
     ensures span { result.span ≡ span }

@@ -1,13 +1,13 @@
-//! The rules for attributes. The attributes of Rattle are removed, and a derive loses the names
-//! that Rust does not have. Used by `rules`.
+//! `attribute` applies the rules for attributes: it blanks attributes that only Rattle has, and
+//! names that Rust does not have or cannot derive. Called by `rules`.
 
 use crate::Refusal;
 use crate::rules::Step;
 use crate::source::Source;
 
 /// Erases the attribute whose `#` is token number `n`, and returns the number of the attribute's
-/// last token. Appends to `added` the `impl` that replaces a derive of `Clone`. Refuses an unknown
-/// attribute.
+/// last token. Appends to `added` the `impl` that replaces a derive of `Clone`. Returns a refusal
+/// if the attribute is unknown.
 pub(crate) fn attribute(source: &mut Source<'_>, n: usize, added: &mut String) -> Step {
     let open = if source.at(n + 1) == "!" { n + 2 } else { n + 1 };
     if source.at(open) != "[" {
@@ -26,11 +26,10 @@ pub(crate) fn attribute(source: &mut Source<'_>, n: usize, added: &mut String) -
 }
 
 /// Erases names of the derive whose `#` is token number `n`, and the whole derive if no name
-/// remains.
+/// remains. Returns a refusal if a name is unknown.
 ///
 /// `Drop` is removed. `Clone` without `Copy` is also removed, because cloning can fail in Rattle
-/// and Rust cannot derive this form of `Clone`. An `impl` is appended to `added` instead. Refuses
-/// an unknown name.
+/// and Rust cannot derive this form of `Clone`. An `impl` is appended to `added` instead.
 fn derive(source: &mut Source<'_>, n: usize, added: &mut String) -> Result<(), Refusal> {
     let close = source.closing(n + 3);
     let names = (n + 4..close).step_by(2);
@@ -58,7 +57,7 @@ fn derive(source: &mut Source<'_>, n: usize, added: &mut String) -> Result<(), R
 }
 
 /// Returns an `impl` of `Clone` that copies each field of the struct that begins at token number
-/// `n`. Refuses any item other than a struct with named fields and no parameters.
+/// `n`. Returns a refusal if the item is not a struct with named fields and without parameters.
 fn copy_of(source: &Source<'_>, n: usize) -> Result<String, Refusal> {
     let word = source.find(n, &["struct", "enum", "fn", ";", "{"])?;
     let (name, open) = (source.at(word + 1), word + 2);

@@ -1,5 +1,6 @@
-//! Finds the ends of ghost items and clauses. The braces of a ghost item or clause contain antt
-//! instead of Rust. In antt, comments begin with `--`, and a quote is a letter. Used by `tokens`.
+//! Functions that find the ends of ghost items and clauses. The braces of a ghost item or clause
+//! contain antt instead of Rust. In antt, comments begin with `--`, and a quote is a letter. Used
+//! by `tokens`.
 
 use crate::Refusal;
 use crate::tokens::{line_end, string_end, word_end};

@@ -1,10 +1,11 @@
-//! An eraser that removes the contracts from Rattle sources. The result is Rust.
+//! `erase` removes the contracts from a Rattle source. The result is Rust.
 //!
-//! Used by the build scripts of the packages beside this one, which compile crates as modules.
+//! The build scripts of the packages beside this package use `build` to compile crates as modules.
 //!
-//! - Ghost items, clauses and everything else that only proofs need become blanks. A few names
-//!   become other names of the same width. Each remaining token therefore keeps its line and its
-//!   column, and an error of the compiler or a panic names the line of the `.rt` file.
+//! - Ghost items, clauses and everything else that only proofs need become blanks. The `crate` of a
+//!   path and the names of several methods are replaced by names of the same width. Each remaining
+//!   token therefore keeps its line and its column, and an error of the compiler or a panic names
+//!   the line of the `.rt` file.
 //! - Lines are added only after the last line: `use` declarations, and an `impl` of `Clone` for
 //!   each derive of `Clone` that is removed.
 //! - Unknown forms are refused, with their file, line and column.

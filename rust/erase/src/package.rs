@@ -1,17 +1,18 @@
-//! Erases the crates of a Rust package into the modules of the package. Used by build scripts,
-//! which run in the folder of their package.
+//! `build` erases the crates of a Rust package into the modules of the package. Called by build
+//! scripts, which run in the directory of their package.
 
 use crate::{Paths, erase};
 use std::path::{Path, PathBuf};
 use std::{env, fs, io};
 
-/// The crates that the package `logos-codegen` contains, together with the libraries that they use.
+/// The crates that the package `logos-codegen` contains in addition to the libraries that these
+/// crates use.
 pub const LIBRARY: [&str; 4] = ["logos_codegen", "logos_tables", "logos_help", "logos_derive"];
 
 /// A crate or a program that becomes a module of the package's root.
 pub struct Module<'a> {
     pub name: &'a str,
-    /// The folder of the module's sources, or its single source.
+    /// The directory of the module's sources, or the module's single source.
     pub source: PathBuf,
     pub paths: Paths<'a>,
     /// The lines that are added to the module's root.
@@ -30,7 +31,7 @@ impl Crates {
     ///
     /// The package contains the crates as `bazel-crates`, and their list as `bazel-crates.txt`.
     /// These are symbolic links in a clone, and copies in a vendored package. Rattle's gate refuses
-    /// links with other names. In a clone without links, the crates are two folders above.
+    /// links with other names. In a clone without links, the crates are two directories above.
     ///
     /// # Errors
     ///
@@ -53,8 +54,8 @@ impl Crates {
         self.rows.iter().map(|(name, _)| name.as_str())
     }
 
-    /// Returns the names of the libraries that the crate `name` uses, or none if the list does not
-    /// contain the crate.
+    /// Returns the names of the libraries that the crate `name` uses, or no names if the list does
+    /// not contain the crate.
     fn libraries(&self, name: &str) -> impl Iterator<Item = &str> {
         let row = self.rows.iter().find(|(row, _)| row == name);
         row.into_iter().flat_map(|(_, libraries)| libraries).map(String::as_str)
@@ -84,9 +85,9 @@ impl Crates {
     }
 }
 
-/// Erases modules into the folder `OUT_DIR`, and writes the file `crates.rs` in this folder, which
-/// declares the modules. Each module becomes a file with its name, and a folder with the modules in
-/// it.
+/// Erases modules into the directory `OUT_DIR`. Each module becomes a file with the module's name,
+/// and a directory with the modules that it contains. Also writes the file `crates.rs`, which
+/// declares the modules, into `OUT_DIR`.
 ///
 /// # Errors
 ///
@@ -104,7 +105,7 @@ pub fn build(modules: &[Module<'_>]) -> io::Result<()> {
 }
 
 /// Erases the sources of a module: the root into the file `target` with the extension `rs`, and the
-/// other sources into the folder `target`. Modules named `laws` are left out.
+/// other sources into the directory `target`. Modules named `laws` are left out.
 fn erase_module(module: &Module<'_>, target: &Path) -> io::Result<()> {
     let (paths, root) = (&module.paths, target.with_extension("rs"));
     if module.source.is_file() {
@@ -136,7 +137,7 @@ fn erase_file(path: &Path, target: &Path, paths: &Paths<'_>, added: &str) -> io:
     write(target, erased + added)
 }
 
-/// Writes a file. Creates the folder of the file if it does not exist.
+/// Writes a file. Creates the directory of the file if the directory does not exist.
 fn write(path: &Path, text: String) -> io::Result<()> {
     fs::create_dir_all(path.parent().unwrap_or(path)).map_err(named(path))?;
     fs::write(path, text).map_err(named(path))

@@ -1,5 +1,5 @@
-//! The rules that turn the code of a Rattle source into Rust. Each rule examines a token and the
-//! tokens around it. Used by `erase`.
+//! `apply` applies the rules that turn the code of a Rattle source into Rust. Each rule examines a
+//! token and the tokens around the token. Called by `erase`.
 
 use crate::attributes::attribute;
 use crate::source::Source;
@@ -8,8 +8,8 @@ use crate::{Paths, Refusal};
 /// The number of the last token that a rule has handled, or the refusal of a form.
 pub(crate) type Step = Result<usize, Refusal>;
 
-/// The methods that take an allocator in Rattle but not in Rust, each with the name of the method
-/// that takes an allocator.
+/// The names of the methods that take an allocator in Rattle but not in Rust, each with the name of
+/// equal width that replaces it.
 const WITH_ALLOCATOR: [(&str, &str); 4] = [
     ("collect", "list_in"),
     ("to_vec", "vec_in"),
@@ -69,8 +69,8 @@ fn declaration<'t>(source: &mut Source<'t>, n: usize, names: &mut Names<'t>) -> 
     Ok(end)
 }
 
-/// Blanks the `impl` at token number `n` if it is an `impl` of `Model`. Refuses an `impl` of
-/// `Drop`.
+/// Blanks the `impl` at token number `n` if it is an `impl` of `Model`. Returns a refusal if it is
+/// an `impl` of `Drop`.
 fn implementation(source: &mut Source<'_>, n: usize) -> Step {
     let open = source.find(n, &["{", ";"])?;
     let trait_end = (n..open).find(|&k| source.at(k) == "for").map_or("", |k| source.before(k));
@@ -82,8 +82,9 @@ fn implementation(source: &mut Source<'_>, n: usize) -> Step {
     Ok(source.closing(open))
 }
 
-/// Replaces the `crate` at token number `n` of a path with `krate`, a name for the module that
-/// contains the crate. Adds the declaration of this name to `names`.
+/// Replaces the `crate` at token number `n` with `krate` if it begins a path, and adds to `names` a
+/// declaration that makes `krate` a name of the module that contains the crate. Leaves `(crate)`
+/// unchanged, and returns a refusal for any other `crate`.
 fn own_path(source: &mut Source<'_>, n: usize, paths: &Paths<'_>, names: &mut Names<'_>) -> Step {
     match (source.before(n), source.at(n + 1)) {
         (before, "::") if before != "in" && before != "$" => source.rename(n, "krate"),

@@ -1,5 +1,5 @@
-//! The tokens of a source, with the operations that rules use to examine and change the tokens.
-//! Used by `rules` and `attributes`.
+//! Defines `Source`: the tokens of a source, and the operations with which rules examine and change
+//! the tokens. Used by `rules` and `attributes`.
 
 use crate::Refusal;
 use crate::tokens::{Kind, token_at};
@@ -25,8 +25,8 @@ pub(crate) struct Source<'t> {
 }
 
 impl<'t> Source<'t> {
-    /// Reads a source, and blanks its ghost items and clauses. Refuses a source whose brackets are
-    /// not paired.
+    /// Reads a source, and blanks its ghost items and clauses. Returns a refusal if the brackets of
+    /// the source are not paired.
     pub(crate) fn new(text: &'t str) -> Result<Source<'t>, Refusal> {
         let (tokens, comments, edits) = (Vec::new(), Vec::new(), Vec::new());
         let mut source = Source { text, tokens, comments, edits };
@@ -51,7 +51,8 @@ impl<'t> Source<'t> {
     }
 
     /// Adds the token at `from..to`. The number of an opening bracket is added to `open`. A closing
-    /// bracket is paired with the last bracket in `open`, or refused if the two do not match.
+    /// bracket is paired with the last bracket in `open`. Returns a refusal if the two brackets do
+    /// not match.
     fn push(&mut self, from: usize, to: usize, open: &mut Vec<usize>) -> Result<(), Refusal> {
         let n = self.tokens.len();
         self.tokens.push(Token { from, to, closing: 0 });
@@ -149,7 +150,7 @@ impl<'t> Source<'t> {
         self.edits.push((from, if rest.starts_with('\n') { end + 1 } else { to }, ""));
     }
 
-    /// Returns the text of the source with all edits.
+    /// Returns the text of the source with all edits applied.
     pub(crate) fn edited(mut self) -> String {
         self.edits.sort_unstable_by_key(|edit| edit.0);
         let mut output = String::with_capacity(self.text.len() + 256);

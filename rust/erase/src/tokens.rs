@@ -1,10 +1,10 @@
-//! The tokens of a Rattle source, in which each ghost item and each clause is one token. Used by
-//! `source`.
+//! `token_at` finds the kind and the end of a token of a Rattle source. Each ghost item and each
+//! clause is one token. Called by `source`.
 
 use crate::Refusal;
 use crate::ghosts::{clause_end, ghost_end};
 
-/// The kind of a token.
+/// The kind of a token: code that remains in Rust, a comment, or text that only proofs need.
 pub(crate) enum Kind {
     /// A word, a number, another literal, `::`, or one character of punctuation.
     Code,
@@ -14,7 +14,8 @@ pub(crate) enum Kind {
 }
 
 /// Returns the kind of the token that begins at the byte offset `at`, and the offset after the
-/// token. Refuses a token that does not end, and a character that begins no token.
+/// token. Returns a refusal if the token does not end, or if no token begins with the character at
+/// `at`.
 pub(crate) fn token_at(text: &str, at: usize) -> Result<(Kind, usize), Refusal> {
     let bytes = text.as_bytes();
     match (bytes[at], bytes.get(at + 1)) {
@@ -46,7 +47,7 @@ pub(crate) fn word_end(bytes: &[u8], mut at: usize) -> usize {
 
 /// Returns the kind of the token that begins with a word at the byte offset `at`, and the offset
 /// after the token. The token is the word, a literal with a prefix, a ghost item or a clause.
-/// Refuses a literal, a ghost item or a clause that does not end.
+/// Returns a refusal if a literal, a ghost item or a clause does not end.
 fn word_at(text: &str, at: usize) -> Result<(Kind, usize), Refusal> {
     let bytes = text.as_bytes();
     let to = word_end(bytes, at);

@@ -55,13 +55,15 @@ impl Build {
         self
     }
 
-    /// Expands the lexers of the Rust file `source` of the package into a file of the same name in
-    /// the folder `OUT_DIR`, and returns the path of that file. Everything else in the file stays
-    /// unchanged. The result is written entirely, or not at all.
+    /// Expands the lexers of the Rust file `source` of the package into a file with the name of
+    /// `source` in the directory `OUT_DIR`, and returns the path of the new file. All text other
+    /// than the lexers stays unchanged. The new file is written entirely, or not at all.
     ///
-    /// Warnings become warnings of Cargo. If the file has faults, or cannot be read, or the result
-    /// cannot be written, the reason is printed on standard error and the build script ends with
-    /// exit status 1. The library uses at most 1 GiB of memory, or the value of the variable
+    /// Warnings become warnings of Cargo. If the file `source` cannot be read or has faults, or if
+    /// the new file cannot be written, prints the reason on standard error, and ends the build
+    /// script with exit status 1.
+    ///
+    /// The library uses at most 1 GiB of memory, or the number of bytes in the environment variable
     /// `LOGOS_MEMORY`, such as `4G`.
     pub fn expand(&self, source: impl AsRef<Path>) -> PathBuf {
         let source = source.as_ref();
@@ -85,8 +87,8 @@ impl Build {
         Ok(output)
     }
 
-    /// Runs `logos_cli` on the file at `source` and writes the result to `output`. Returns the
-    /// warnings, or the faults as an error.
+    /// Runs `logos_cli` on the file at `source`, and writes the result to `output`. Returns the
+    /// messages of `logos_cli`, as an error if the exit status is not 0.
     fn run(&self, source: &str, output: &str) -> Result<String, String> {
         let words = [
             source,
@@ -115,8 +117,9 @@ pub fn expand(source: impl AsRef<Path>) -> PathBuf {
     Build::new().expand(source)
 }
 
-/// Returns a path as an argument, or a message if the path is not UTF-8 or has control characters.
-/// Cargo reads paths from lines, so a path with a line end is invalid.
+/// Returns a path as an argument, or an error message if the path is not UTF-8 or has control
+/// characters. Cargo reads each path from one line of output, so that a path must not contain a
+/// line end.
 fn word(path: &Path) -> Result<&str, String> {
     let word = path
         .to_str()
@@ -134,7 +137,7 @@ fn words_of(words: &[&str]) -> Result<List<Word>, AllocError> {
     Ok(list)
 }
 
-/// Returns `text` with control characters other than line ends escaped.
+/// Returns `text` with each control character other than a line end escaped.
 fn shown(text: &str) -> String {
     let mut shown = String::with_capacity(text.len());
     for c in text.chars() {

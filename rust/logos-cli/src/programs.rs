@@ -1,6 +1,6 @@
-//! Functions that run a program with the files, clock and streams of this process, or with those
-//! that the caller passes. Called by the programs `logos`, `logos_cli` and `logos_show`, and by the
-//! playground.
+//! Functions that run a program. `run` uses the files, the clock and the streams of this process,
+//! and `show` uses those that the caller passes. Called by the programs `logos`, `logos_cli` and
+//! `logos_show`, and by the playground.
 
 use crate::logos_host::{ComparableFiles, Failure, arguments};
 use std::alloc::{Global, set_budget_of_program};
@@ -10,19 +10,19 @@ use std::prelude::{HostRuntime, String, Vec};
 use std::process::ExitCode;
 use std::time::Clock;
 
-/// The line that `--version` prints after the version. The programs do not print the line if it
-/// names no commit.
+/// The line that `--version` prints after the version. The programs do not print a line that names
+/// no commit.
 const COMMIT: &str = concat!("commit: ", env!("LOGOS_COMMIT"), "\n");
 
 /// The exit status if the variable `LOGOS_MEMORY` is not a number of bytes.
 const MISUSE: u8 = 2;
 
-/// A program: a function that returns the exit status. The function takes the runtime, and the
-/// arguments of the process or the failure to read them.
+/// A program as a function. The function takes the runtime, and the arguments of the process or the
+/// failure to read the arguments. The result is the exit status.
 type Program = fn(&HostRuntime, Result<Vec<String>, Failure<'static>>) -> u8;
 
-/// Runs a program with the arguments of the process, and returns its exit status, or [`MISUSE`] if
-/// the variable `LOGOS_MEMORY` is not a number of bytes.
+/// Runs a program with the arguments of the process. Returns the exit status of the program, or
+/// [`MISUSE`] if the variable `LOGOS_MEMORY` is not a number of bytes.
 pub fn run(program: Program) -> ExitCode {
     if let Err(error) = set_budget_of_program() {
         let _ = writeln!(HostRuntime.stderr(), "error: {error}");

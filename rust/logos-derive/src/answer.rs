@@ -1,4 +1,4 @@
-//! The library's answers about an enum, in types of Rust's standard library. Used by all other
+//! The library's answers about enums, in types of Rust's standard library. Used by all other
 //! modules.
 
 use crate::question::Question;
@@ -11,8 +11,8 @@ use rattle_std::alloc::{Global, set_budget_of_program};
 use std::ops::Range;
 use std::panic::{AssertUnwindSafe, catch_unwind};
 
-/// The library's answer about an enum: the implementation, if the enum is accepted, and the faults
-/// and warnings.
+/// The library's answer about an enum: the faults and warnings, and the implementation if the enum
+/// is accepted.
 pub struct Answer {
     pub implementation: Option<Implementation>,
     pub diagnostics: Vec<Diagnostic>,
@@ -52,10 +52,11 @@ pub struct Label {
     pub text: String,
 }
 
-/// A message that explains why there is no answer, and perhaps how to fix this.
+/// A message that explains why there is no answer. The message may also explain how to remove the
+/// cause.
 pub struct Failure(pub String);
 
-/// The shape of an implementation, named as in the variable `LOGOS_SHAPE`.
+/// The name of an implementation's shape, as in the variable `LOGOS_SHAPE`.
 #[derive(Clone, Copy)]
 pub struct ShapeName(pub &'static str);
 
@@ -77,17 +78,16 @@ impl ShapeName {
     }
 }
 
-/// Sets the maximum memory that the library uses.
+/// Sets the maximum memory of the library according to the variable `LOGOS_MEMORY`.
 ///
 /// # Errors
 ///
-/// Returns a message if the value of the variable `LOGOS_MEMORY` is not a number of bytes, such as
-/// `500M`.
+/// Returns a message if the value of the variable is not a number of bytes, such as `500M`.
 pub fn set_budget() -> Result<(), Failure> {
     set_budget_of_program().map_err(|error| Failure(error.to_string()))
 }
 
-/// Calls the library, and returns its answer about the enum of `question`.
+/// Calls the library, and returns the library's answer about the enum of `question`.
 ///
 /// # Errors
 ///

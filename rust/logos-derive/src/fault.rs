@@ -1,4 +1,5 @@
-//! Turns faults into compile errors. Used by the macro, and by `warning` for the texts of warnings.
+//! Functions that turn faults into compile errors. The macro calls them, and `warning` calls `text`
+//! for warnings.
 
 use crate::answer::{Diagnostic, Failure, Label};
 use crate::question::{Place, Question};
@@ -10,7 +11,7 @@ pub fn failure(failure: &Failure, question: &Question) -> TokenStream {
     error_at(&failure.0, question.name())
 }
 
-/// Returns the compile error for a fault, at its tokens.
+/// Returns the compile error for a fault, at the tokens of the fault's span.
 pub fn error(fault: &Diagnostic, question: &Question) -> TokenStream {
     error_at(&text(fault, question), question.place(&fault.span))
 }
@@ -22,7 +23,7 @@ fn error_at(text: &str, place: Option<Place>) -> TokenStream {
     }
 }
 
-/// Returns the whole text of a fault or a warning: its first line, followed by its notes and helps.
+/// Returns the whole text of a fault or a warning: the first line, followed by the notes and helps.
 pub fn text(found: &Diagnostic, question: &Question) -> String {
     let mut lines = vec![found.message.clone()];
     lines.extend(in_literal(found, question));
@@ -87,7 +88,7 @@ fn has_one_column(c: char) -> bool {
     matches!(c, ' '..='~' | '\u{a1}'..='\u{2ff}' | '\u{370}'..='\u{52f}') && c != '\u{ad}'
 }
 
-/// The maximum length of a line that is shown entirely, in characters.
+/// The maximum number of characters of a line that is shown in full.
 const LONG: usize = 80;
 
 /// Returns `text` on one line, cut after [`LONG`] characters if it is longer.

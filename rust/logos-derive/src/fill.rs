@@ -1,4 +1,5 @@
-//! Reads an implementation as tokens, with the user's own tokens for the pieces of the source.
+//! Functions that read the text of an implementation as tokens, and replace the pieces of the
+//! source by the user's own tokens.
 
 use crate::answer::{Failure, Implementation, Piece};
 use crate::question::Question;
@@ -6,13 +7,13 @@ use proc_macro::{Delimiter, Group, Span, TokenStream, TokenTree};
 use std::ops::Range;
 use std::vec::IntoIter;
 
-/// The attribute before an implementation, which silences Clippy lints for generated code. Clippy
-/// detects by itself that the user's tokens come from a macro.
+/// The attribute before an implementation. The attribute silences Clippy lints for generated code.
+/// Clippy detects by itself that the user's tokens come from a macro.
 const LINTS: &str = "#[allow(clippy::manual_range_contains, clippy::question_mark)] ";
 
-/// The user's tokens for a part of an implementation.
+/// The user's tokens for a piece of an implementation.
 struct Filling {
-    /// The byte range of the part in the implementation.
+    /// The byte range of the piece in the implementation.
     range: Range<usize>,
     tokens: Vec<TokenTree>,
     /// The span of the piece, such as a callback, if the piece is from an attribute. Errors in the
@@ -23,8 +24,8 @@ struct Filling {
     field: Option<(Span, Span)>,
 }
 
-/// Returns the tokens of `implementation`, in which the pieces are the user's tokens with their
-/// spans.
+/// Returns the tokens of `implementation`, with the user's own tokens in place of the pieces. The
+/// user's tokens keep their spans.
 ///
 /// # Errors
 ///
@@ -91,7 +92,7 @@ fn with_name(text: &str, fillings: &[Filling], name: &str) -> String {
     named
 }
 
-/// The name that replaces pieces, and the fillings for its remaining occurrences.
+/// The name that replaces pieces, and the fillings for the remaining occurrences of the name.
 struct Rest {
     name: String,
     fillings: IntoIter<Filling>,

@@ -1,5 +1,4 @@
-//! The generic parameters of a refused enum, for the implementation that replaces its lexer. Used
-//! by `stub`.
+//! The generic parameters of a refused enum, as the implementation in `stub` needs them.
 
 use crate::stub::{Trees, is_punct};
 use proc_macro::{Delimiter, Group, Ident, Span, TokenStream, TokenTree};
@@ -16,7 +15,7 @@ pub struct Generics {
     pub bounds: TokenStream,
 }
 
-/// The types that an enum names for its type parameters, by the names of the parameters.
+/// The types that an enum names for its type parameters. The keys are the names of the parameters.
 pub type Types = HashMap<String, TokenStream>;
 
 /// Reads the generic parameters and the `where` clause of an enum, and returns the generics of the
@@ -129,7 +128,7 @@ fn lifetime(tree: TokenTree) -> TokenTree {
     }
 }
 
-/// Returns a token tree. If it is a group, the lifetimes in it are replaced.
+/// Returns `tree`. If `tree` is a group, the lifetimes in the group are replaced.
 fn inner(tree: TokenTree) -> TokenTree {
     match &tree {
         TokenTree::Group(group) => {

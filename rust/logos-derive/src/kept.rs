@@ -1,10 +1,10 @@
 //! A cache that stores answers from one build to the next.
 //!
-//! rustc expands a macro again in each build of the crate that uses it. An answer depends only on
-//! the enum, the shape and the library, so it is stored in the folder that Cargo provides to the
-//! macro. Each file contains its question, which is compared before the answer is used. A file is
-//! written under another name and then renamed, so that no partial file is ever read. If the folder
-//! cannot be written, nothing is stored.
+//! rustc expands a macro again in each build of the crate that uses the macro. An answer depends
+//! only on the enum, the shape and the library, so it is stored in the directory that Cargo
+//! provides to the macro. Each file contains its question, which is compared before the answer is
+//! used. A file is written under another name and then renamed, so that no partial file is ever
+//! read. If the directory cannot be written, nothing is stored.
 
 use crate::answer::{Answer, ShapeName};
 use crate::record;
@@ -14,7 +14,8 @@ use std::hash::{Hash, Hasher};
 use std::io::{self, Write};
 use std::path::{Path, PathBuf};
 
-/// The folder that Cargo provides to the macro. It exists on the machine that built the macro.
+/// The directory that Cargo provides to the macro. The directory exists on the machine that built
+/// the macro.
 const FOLDER: &str = env!("OUT_DIR");
 
 /// The identity of this version of the library: a checksum of its sources.
@@ -23,21 +24,21 @@ const LIBRARY: &str = env!("LOGOS_LIBRARY");
 /// The maximum length of a file, in bytes.
 const LONGEST: usize = 8 << 20;
 
-/// The maximum length of all files together, in bytes. If another file would exceed this length,
-/// all files are removed.
+/// The maximum total length of all files, in bytes. If another file would exceed this length, all
+/// files are removed.
 const MOST: u64 = 128 << 20;
 
-/// The minimum number of bytes that a file counts as, which bounds the number of files.
+/// The number of bytes that each smaller file counts as. This minimum bounds the number of files.
 const LEAST: u64 = 32 << 10;
 
-/// The location of an answer in the cache: its question, and the path of its file.
+/// An entry of the cache: the question, and the path of the file that stores the answer.
 pub struct Place {
     asked: String,
     path: PathBuf,
 }
 
 impl Place {
-    /// Returns the location of the answer about the enum `text` for a shape.
+    /// Returns the entry for the answer about the enum `text` in the shape `shape`.
     pub fn new(text: &str, shape: ShapeName) -> Place {
         let asked = format!("{LIBRARY} {} {text}", shape.0);
         let mut sum = DefaultHasher::new();
@@ -46,7 +47,7 @@ impl Place {
         Place { asked, path }
     }
 
-    /// Returns the stored answer, or `None` if it does not exist or cannot be read.
+    /// Returns the stored answer, or `None` if no answer is stored or the file cannot be read.
     pub fn find(&self) -> Option<Answer> {
         let bytes = fs::read(&self.path).ok()?;
         record::read(&bytes, &self.asked)
@@ -83,8 +84,8 @@ fn folder() -> PathBuf {
     Path::new(FOLDER).join("answers")
 }
 
-/// Creates the folder if it does not exist. Removes all its files if their total length, including
-/// another file of `more` bytes, would exceed [`MOST`].
+/// Creates the directory if it does not exist. Removes all files in it if their total length,
+/// including another file of `more` bytes, would exceed [`MOST`].
 fn make_room(more: u64) -> io::Result<()> {
     if !folder().is_dir() {
         fs::create_dir(folder())?;

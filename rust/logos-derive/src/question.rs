@@ -1,10 +1,10 @@
-//! The enum as a text, with the byte ranges of its tokens. Used by `answer`, `fault`, `fill` and
-//! `warning`.
+//! The text of an enum, with the byte ranges of the enum's tokens. Used by `answer`, `fault`,
+//! `fill` and `warning`.
 
 use proc_macro::{Delimiter, Group, Ident, Literal, Spacing, Span, TokenStream, TokenTree};
 use std::ops::Range;
 
-/// An enum as a text, with its token trees and its tokens.
+/// The text of an enum, with the enum's token trees and tokens.
 #[derive(Default)]
 pub struct Question {
     pub text: String,
@@ -20,7 +20,7 @@ struct Node {
     inner: Vec<Node>,
 }
 
-/// A token of the enum, with its byte range in the text. Delimiters are tokens, too.
+/// A token of the enum, with its byte range in the text. Delimiters are also tokens.
 struct Token {
     from: usize,
     to: usize,
@@ -38,7 +38,7 @@ pub struct Place {
 }
 
 impl Question {
-    /// Returns the text of `item`, with its tokens.
+    /// Returns the text of `item`, with the token trees and tokens of `item`.
     pub fn new(item: TokenStream) -> Question {
         let mut question = Question::default();
         question.nodes = question.print(item);
@@ -54,7 +54,8 @@ impl Question {
 
     /// Returns the spans of the first and the last token of the type of a variant's field. The name
     /// of the variant ends at the byte offset `end`. Returns `None` if there is no such variant, or
-    /// if it has no field in parentheses. If it has several fields, the spans include all types.
+    /// if the variant has no field in parentheses. If the variant has several fields, the spans
+    /// include the types of all fields.
     pub fn field_after(&self, end: usize) -> Option<(Span, Span)> {
         let variants = self.nodes.last()?;
         let after = variants.inner.partition_point(|node| node.from < end);
@@ -68,12 +69,13 @@ impl Question {
         (name.to == end).then_some((first.tree.span(), last.tree.span()))
     }
 
-    /// Returns whether the token at byte offset `at`, or the next one, is in an attribute.
+    /// Returns whether the token at the byte offset `at` is in an attribute. If no token is at
+    /// `at`, the next token counts.
     pub fn is_in_attribute(&self, at: usize) -> bool {
         is_in_attribute(&self.nodes, at)
     }
 
-    /// Returns the tokens of the enum's name, or `None` if the item is not an enum.
+    /// Returns the spans of the enum's name, or `None` if the item is not an enum.
     pub fn name(&self) -> Option<Place> {
         let name = self.name_node()?;
         self.place(&(name.from..name.to))
@@ -105,8 +107,8 @@ impl Question {
         })
     }
 
-    /// Returns the tokens that overlap a byte range, or the byte at its start if the range is
-    /// empty. Returns `None` if there are no such tokens.
+    /// Returns the spans of the first and the last token that overlap a byte range. An empty range
+    /// counts as the byte at its start. Returns `None` if no token overlaps the range.
     pub fn place(&self, range: &Range<usize>) -> Option<Place> {
         let from = range.start;
         let to = range.end.max(from.saturating_add(1));
@@ -123,7 +125,7 @@ impl Question {
         })
     }
 
-    /// Appends token trees to the text, and returns them with their byte ranges.
+    /// Appends token trees to the text, and returns the token trees with their byte ranges.
     fn print(&mut self, trees: TokenStream) -> Vec<Node> {
         trees
             .into_iter()
@@ -194,7 +196,7 @@ impl Question {
     }
 }
 
-/// Returns the printed form of a name, without `$` because a source cannot contain `$crate`.
+/// Returns the printed form of a name. A `$` is left out, because a source cannot contain `$crate`.
 fn printed(name: &Ident) -> String {
     name.to_string().trim_start_matches('$').into()
 }
@@ -234,7 +236,8 @@ fn is_parenthesized(node: &Node) -> bool {
     matches!(&node.tree, TokenTree::Group(group) if group.delimiter() == Delimiter::Parenthesis)
 }
 
-/// Returns the number of token trees before the type of a field, which form its attributes.
+/// Returns the number of token trees before the type of a field. These token trees are the
+/// attributes of the field.
 fn field_start(nodes: &[Node]) -> usize {
     let is_hash = |node: &Node| matches!(&node.tree, TokenTree::Punct(p) if p.as_char() == '#');
     2 * nodes.chunks(2).take_while(|pair| is_hash(&pair[0])).count()

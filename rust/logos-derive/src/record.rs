@@ -1,5 +1,5 @@
-//! Encodes answers as bytes. A number has eight bytes, in little-endian order. A text or a list is
-//! preceded by its length. Used by `kept`.
+//! The encoding of answers as bytes. A number has eight bytes, in little-endian order. A text or a
+//! list is preceded by its length. Used by `kept`.
 
 use crate::answer::{Answer, Diagnostic, Implementation, Label, Piece};
 use std::ops::Range;
@@ -22,8 +22,8 @@ pub fn written(answer: &Answer, asked: &str) -> Option<Vec<u8>> {
     Some(out)
 }
 
-/// Returns the answer in a record, or `None` if the record is not complete or does not have the
-/// question `asked`.
+/// Returns the answer in a record, or `None` if the record is incomplete or contains another
+/// question than `asked`.
 pub fn read(bytes: &[u8], asked: &str) -> Option<Answer> {
     let mut rest = bytes;
     let rest = &mut rest;

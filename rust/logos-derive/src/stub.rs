@@ -1,5 +1,5 @@
-//! The implementation for a refused enum. It is never called. It exists so that uses of the enum as
-//! a lexer cause no errors in addition to the faults.
+//! The implementation of `Logos` for a refused enum. The implementation is never called. Because it
+//! exists, uses of the enum as a lexer cause no errors in addition to the faults.
 
 use crate::generics::{Generics, Types, read_generics, with_lifetime};
 use crate::type_syntax::{is_path, is_type};
@@ -20,7 +20,7 @@ struct Options {
     source: TokenStream,
     extras: TokenStream,
     error: TokenStream,
-    /// The types of type parameters, by the names of the parameters.
+    /// The types for the type parameters. The keys are the names of the parameters.
     types: Types,
 }
 
@@ -121,8 +121,8 @@ pub fn is_punct(tree: Option<&TokenTree>, c: char) -> bool {
     matches!(tree, Some(TokenTree::Punct(punct)) if punct.as_char() == c)
 }
 
-/// Reads an attribute after its `#`, and sets the options in it if it is `#[logos(..)]`. Returns
-/// `None` if no attribute follows.
+/// Reads an attribute after its `#`. If the attribute is `#[logos(..)]`, sets the options that the
+/// attribute contains. Returns `None` if no attribute follows.
 fn attribute(trees: &mut Trees, options: &mut Options) -> Option<()> {
     let TokenTree::Group(attribute) = trees.next()? else {
         return None;

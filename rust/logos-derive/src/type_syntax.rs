@@ -1,10 +1,10 @@
-//! Recognizes the kinds of types that options usually have: paths, references, tuples, slices and
-//! arrays. Used by `stub`.
+//! Functions that recognize the kinds of types that options usually have: paths, references,
+//! tuples, slices and arrays. Used by `stub`.
 
 use proc_macro::{Delimiter, Group, TokenTree};
 
-/// The remaining token trees. The methods remove a certain form of token trees from the front, and
-/// return whether they found this form.
+/// The remaining token trees. Each method removes token trees of a certain form from the front, and
+/// returns whether the method found this form.
 struct Rest<'a>(&'a [TokenTree]);
 
 /// Returns whether `trees` is one type of the kinds that this module recognizes.
@@ -20,13 +20,15 @@ pub fn is_path(trees: &[TokenTree]) -> bool {
 }
 
 impl Rest<'_> {
-    /// Removes the next token if it is the punctuation character `c`, and returns whether it is.
+    /// Removes the next token if it is the punctuation character `c`, and returns whether a token
+    /// was removed.
     fn punct(&mut self, c: char) -> bool {
         let found = matches!(self.0, [TokenTree::Punct(punct), ..] if punct.as_char() == c);
         self.skip_if(found)
     }
 
-    /// Removes the next token if it is an identifier or a keyword, and returns whether it is.
+    /// Removes the next token if it is an identifier or a keyword, and returns whether a token was
+    /// removed.
     fn word(&mut self) -> bool {
         let found = matches!(self.0, [TokenTree::Ident(_), ..]);
         self.skip_if(found)

@@ -1,5 +1,5 @@
-//! Reports warnings as uses of a deprecated constant, because stable Rust has no warnings from
-//! macros. Used by the macro.
+//! Functions that report warnings as uses of a deprecated constant, because stable Rust has no
+//! warnings from macros. Used by the macro.
 
 use crate::answer::Diagnostic;
 use crate::fault::text;

@@ -1,8 +1,8 @@
-//! The items that a lexer has found ahead of its own offset: the tokens of a word of a chunk, or
-//! none.
+//! The items that a lexer has found ahead of its own offset: the tokens of one word of a chunk, or
+//! no tokens.
 //!
 //! The loop of `run` takes these tokens. The function that the loop calls out of line takes and
-//! returns the whole state by value, so that the compiler can keep the lexer in registers in a loop
+//! returns a whole `Ahead` by value, so that the compiler can keep the lexer in registers in a loop
 //! over tokens.
 
 use crate::folded::Folded;
@@ -10,8 +10,8 @@ use crate::internal::Tables;
 use crate::walk::{new_room, Room};
 use crate::{Span, Way};
 
-/// The number of bytes that a new lexer lexes before it looks ahead. A lexer, or a clone of a
-/// lexer, from which only a few tokens are taken thus walks over no chunk.
+/// The number of bytes that a new lexer, or a new clone of a lexer, lexes before it looks ahead. If
+/// the caller takes only the tokens in these bytes, the lexer walks over no chunk.
 const HESITATES: usize = 512;
 /// The minimum number of remaining bytes with which a lexer begins to look ahead.
 const BEGINS: usize = 7168;
@@ -133,9 +133,9 @@ impl Ahead {
         self.tokens &= self.tokens.wrapping_sub(1);
     }
 
-    /// Skips the tokens of the word that end at or before the byte offset `end`, the new end of an
-    /// item that was made longer. Forgets all tokens of the word if no match of the word ends at
-    /// `end`.
+    /// Skips the tokens of the word that end at or before the byte offset `end`. This offset is the
+    /// new end of an item that was made longer. If no match of the word ends at `end`, forgets all
+    /// tokens of the word.
     #[inline(always)]
     pub(crate) fn pass_to(&mut self, end: usize) {
         match &self.room {
@@ -201,7 +201,9 @@ impl Ahead {
         T::refill(self, bytes)
     }
 
-    /// Walks over the next chunk if enough bytes remain. Returns the next step of the lexer.
+    /// Walks over the next chunk if the tables have rows and at least [`FEWEST`] bytes remain. For
+    /// a lexer that looks ahead everywhere, one remaining byte suffices. Returns the next step of
+    /// the lexer.
     #[inline(always)]
     fn refill<'s, T: Tables<'s>>(&mut self, bytes: &[u8]) -> Next {
         let Some(room) = &mut self.room else {
@@ -224,7 +226,7 @@ impl Ahead {
     }
 
     /// Forgets the tokens of the word, and lets match attempts find the items from the byte offset
-    /// `from` up to `to`. Returns this step.
+    /// `from` up to `to`. Returns the step [`Next::Attempts`].
     fn attempts(&mut self, from: usize, to: usize) -> Next {
         self.forget();
         self.plain_to = to;

@@ -3,8 +3,9 @@
 //!
 //! If all inputs are UTF-8, fast loops also consume characters of more than one byte. A fast loop
 //! consumes the first byte of such a character only if all characters that begin with this byte
-//! lead from the state back to it. The fast loop then also consumes the bytes that continue a
-//! character, and the bytes that occur in no UTF-8 text, so that its bytes form few ranges.
+//! lead from the state back to the same state. The fast loop then also consumes the bytes that
+//! continue a character, and the bytes that occur in no UTF-8 text. With these bytes, the consumed
+//! bytes form fewer ranges.
 
 use crate::data::{Unpacked, END, SYMBOLS};
 use crate::layout::{continues, FIRST_CONTINUATION};
@@ -49,10 +50,10 @@ const fn second(lead: usize) -> u64 {
 }
 
 impl<const STATES: usize, const RUNS: usize> Unpacked<STATES, RUNS> {
-    /// Returns, for each state, the first bytes of the characters that its fast loop consumes.
-    /// States that share a fast loop have equal sets. The sets of the root and of the states
-    /// without a fast loop are empty. All sets are empty if a byte that continues a character leads
-    /// to a state from a state that is not inside a character.
+    /// Returns, for each state, the first bytes of the characters that the state's fast loop
+    /// consumes. States that share a fast loop have equal sets. The sets of the root and of the
+    /// states without a fast loop are empty. All sets are empty if, in a state that is not inside a
+    /// character, a byte that continues a character leads to a state.
     pub(crate) const fn staying_leads(&self) -> [Leads; STATES] {
         let (mut by_loop, mut leads, mut state) = ([!NO_LEADS; STATES], [NO_LEADS; STATES], 0);
         while state < STATES {
@@ -86,7 +87,7 @@ impl<const STATES: usize, const RUNS: usize> Unpacked<STATES, RUNS> {
     }
 
     /// Returns `rows` with the entries for the characters that fast loops consume. The rows begin
-    /// at the index `head`. `folded` is `true` if they are folded rows.
+    /// at the index `head`. `folded` is `true` if `rows` contains folded rows.
     pub(crate) const fn with_characters<const N: usize>(
         &self,
         rows: [u32; N],
@@ -122,8 +123,8 @@ impl<const STATES: usize, const RUNS: usize> Unpacked<STATES, RUNS> {
         rows
     }
 
-    /// Returns the first bytes of the characters that lead from `state` back to it. If there are
-    /// any, the set also contains the bytes that occur in no UTF-8 text.
+    /// Returns the first bytes of the characters that lead from `state` back to `state`. If there
+    /// are such characters, the set also contains the bytes that occur in no UTF-8 text.
     const fn leads_of(&self, state: usize) -> Leads {
         let (mut by_classes, mut class, row) = ([0; SYMBOLS], 0, &self.rows[state]);
         let (mut run, mut past) = (row.run, 0);

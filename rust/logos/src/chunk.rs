@@ -1,4 +1,5 @@
-//! Computes the entries of the bytes of a chunk with folded tables. Called by `walk`.
+//! The entries of the bytes of a chunk, and the walks that compute the entries with folded tables.
+//! Used by `walk`.
 
 use crate::folded::{leaf_of, Folded, ENDED, OFFSET_MASK};
 use crate::guess::{guess_parts, Guesser, Guesses, AGAIN, LEAST_PART};
@@ -18,7 +19,7 @@ const SPAN: usize = 24;
 const _: () = assert!(BLOCK % SPAN == 0 && SPAN % STEPS == 0 && STEPS <= 8);
 /// The number of bytes in a chunk.
 pub(crate) const CHUNK: usize = BLOCKS * BLOCK;
-/// The number of bytes in a word, which has a bit for each byte.
+/// The number of bytes that a word represents. A word has one bit for each byte.
 pub(crate) const WORD: usize = 64;
 /// The number of words in a chunk.
 const WORDS: usize = CHUNK / WORD;
@@ -35,10 +36,11 @@ const LAST_SECOND: usize = BLOCKS - 3;
 pub(crate) struct Chunk {
     /// The entry of each byte.
     trace: [u32; CHUNK],
-    /// The words of the chunk in which the bit of a byte is set if a match ends before the byte.
+    /// The words of the chunk. The bit of a byte is set if a match ends before the byte.
     ends: [u64; WORDS],
-    /// The words of the chunk in which the bit of a byte is set if a token ends before the byte. A
-    /// bit that is set here but not in `ends` marks a byte that needs a separate match attempt.
+    /// The words of the chunk. The bit of a byte is set if a token ends before the byte, or if the
+    /// byte needs a separate match attempt. In the second case, the byte's bit in `ends` is not
+    /// set.
     tokens: [u64; WORDS],
     /// The entries of the latest second walk, or `None` if there was no second walk.
     others: Option<Box<[u32; CHUNK]>>,
@@ -58,7 +60,7 @@ struct Second {
 pub(crate) struct Walked {
     /// The row offset after the last byte.
     pub(crate) row_start: u32,
-    /// The cost of the guesses, and of the bytes that were processed again.
+    /// The cost of the guesses and of the bytes that were processed again.
     pub(crate) cost: usize,
 }
 
@@ -71,8 +73,8 @@ impl Chunk {
         others: None,
     };
 
-    /// Returns the leaf in the entry at the index `at` of the chunk, as [`leaf_of`] does, or `None`
-    /// if the index is out of bounds.
+    /// Returns the result of [`leaf_of`] for the entry at the index `at` of the chunk, or `None` if
+    /// the index is out of bounds.
     #[inline(always)]
     pub(crate) fn leaf(&self, at: usize) -> Option<usize> {
         Some(leaf_of(*self.trace.get(at)?))
@@ -83,8 +85,8 @@ impl Chunk {
         self.trace[at] & OFFSET_MASK
     }
 
-    /// Returns the bits of ends and the bits of tokens of the word that contains the byte at the
-    /// index `at` of the chunk. Returns zeros if the index is out of bounds.
+    /// Returns the words in `ends` and in `tokens` with the byte at the index `at` of the chunk.
+    /// Returns zeros if the index is out of bounds.
     #[inline(always)]
     pub(crate) fn bits(&self, at: usize) -> (u64, u64) {
         let word = at / WORD;
@@ -94,7 +96,7 @@ impl Chunk {
         }
     }
 
-    /// Computes the bits of the words that contain the bytes from `from` up to `to`, from the
+    /// Computes the bits of all words that contain a byte at an index in `from..to`. Reads all
     /// entries of these words.
     pub(crate) fn set_bits(&mut self, from: usize, to: usize) {
         for word in from / WORD..to.div_ceil(WORD).min(WORDS) {
@@ -105,8 +107,8 @@ impl Chunk {
         }
     }
 
-    /// Computes the bits of the bytes from `from` up to `to`, one by one, from their entries. Used
-    /// for few bytes.
+    /// Computes the bits of the bytes at the indices in `from..to`, one by one, from the entries of
+    /// these bytes. `walk` calls this function if the range has at most `FEW` bytes.
     pub(crate) fn set_few_bits(&mut self, from: usize, to: usize) {
         for (at, entry) in self.trace[..to].iter().enumerate().skip(from) {
             let (word, bit) = (at / WORD, at % WORD);
@@ -185,8 +187,8 @@ impl Chunk {
         Walked { row_start, cost }
     }
 
-    /// Walks a second time over all blocks but the first. `before` contains the row offset in which
-    /// each block begins.
+    /// Walks a second time over all blocks but the first. `before` contains the offset of the row
+    /// in which each block begins.
     #[cold]
     fn walk_second<'s, T: Tables<'s>>(
         &mut self,
@@ -198,10 +200,13 @@ impl Chunk {
         Second { before, after, len }
     }
 
-    /// Copies the entries of the block at the index `k` from the second walk, if the block begins
-    /// in the row at `right` in this walk. Returns the row offset after the block, or `Some(None)`
-    /// if the row offset of the first walk remains. Returns `None`, and copies nothing, if the
-    /// block begins in another row or there was no second walk.
+    /// Copies the entries of the block at the index `k` from the second walk if the block begins in
+    /// the row at `right` in the second walk. Returns:
+    ///
+    /// - `Some` with the row offset after the block, if the second walk processed the whole block.
+    /// - `Some(None)` if the row offset after the block is unchanged since the first walk.
+    /// - `None`, and copies nothing, if the block begins in another row, or there was no second
+    ///   walk.
     #[inline]
     fn take_second(
         &mut self,
@@ -248,9 +253,10 @@ impl Chunk {
         walked
     }
 
-    /// Walks over `rest`, which has fewer bytes than a chunk, from the row at `row_start` on. If
-    /// there are enough bytes, processes parts of `rest` in parallel. Processes the remaining bytes
-    /// one at a time. Returns the row offset after `rest`, and the cost.
+    /// Walks over `rest` from the row at `row_start` on. `rest` must have fewer bytes than a chunk.
+    /// If [`BLOCKS`] parts of at least [`LEAST_PART`] bytes fit in `rest`, processes these parts in
+    /// parallel. Processes the remaining bytes one at a time. Returns the row offset after `rest`,
+    /// and the cost.
     #[inline]
     pub(crate) fn walk_rest<'s, T: Tables<'s>>(&mut self, rest: &[u8], row_start: u32) -> Walked {
         let size = rest.len() / BLOCKS;
@@ -309,7 +315,7 @@ impl Chunk {
 
     /// Samples one of every `one_of` words before the index `to`. Returns the number of bytes in
     /// the sample, the number of matches that end in the sample, and the number of states that are
-    /// entered in it.
+    /// entered in the sample.
     pub(crate) fn sample(&self, to: usize, one_of: usize) -> [usize; 3] {
         let mut sums = [0; 3];
         for word in (0..(to / WORD).min(WORDS)).step_by(one_of) {
@@ -322,8 +328,8 @@ impl Chunk {
     }
 }
 
-/// Returns the number of bytes of a word, without the first byte, that lead to another state or
-/// before which a match ends.
+/// Returns the number of bytes of a word that lead to another state or before which a match ends.
+/// The first byte of the word is not counted.
 fn entered(trace: &[u32; WORD]) -> usize {
     let mut entered = 0;
     for at in 1..WORD {
@@ -364,8 +370,8 @@ trait Blocks<'source>: Tables<'source> {
         row_starts.map(|row_start| row_start & OFFSET_MASK)
     }
 
-    /// Like [`Blocks::walk_blocks`], for lexers that have states without a row. While the bytes of
-    /// all blocks are ASCII, no byte is read in such a state, unless the input is not UTF-8.
+    /// Like [`Blocks::walk_blocks`], for lexers that have states without a row. If the input is
+    /// UTF-8, no byte is read in a state without a row while the bytes of all blocks are ASCII.
     #[inline(never)]
     fn walk_characters(
         input: &[u8; CHUNK],
@@ -481,9 +487,9 @@ trait Blocks<'source>: Tables<'source> {
     }
 
     /// Walks in parallel over all blocks but the first, and writes their entries to `others`. Each
-    /// block begins in its row in `row_starts`. The walk stops when all blocks are in the same rows
-    /// as in `trace`. Returns the row offsets at this point, and the number of processed bytes of
-    /// each block.
+    /// block begins in its row in `row_starts`. The walk stops when the row offsets of all blocks
+    /// are equal to those in `trace`. Returns the row offsets at which the walk stops, and the
+    /// number of processed bytes of each block.
     #[inline(never)]
     fn walk_others(
         input: &[u8; CHUNK],
@@ -551,8 +557,7 @@ fn gather(trace: &[u32; WORD], to: &mut [u32; 8]) {
     *to = flags;
 }
 
-/// Returns the bits of ends and the bits of tokens of a word, from the flags that [`gather`] has
-/// written for the word.
+/// Returns a word for `ends` and a word for `tokens`, from the flags that [`gather`] has written.
 #[inline(always)]
 fn bits_of(flags: &[u32; 8]) -> (u64, u64) {
     const FOURTHS: u64 = 0x1111_1111_1111_1111;

@@ -11,7 +11,7 @@ use crate::Source;
 pub(crate) const SYMBOLS: usize = 257;
 /// The symbol for the end of the input.
 pub(crate) const END: usize = 256;
-/// The maximum number of states for which a row has an entry for each byte.
+/// The maximum number of states of a lexer whose rows have an entry for each byte.
 const FEW: usize = 300;
 /// The number of columns of a row that has an entry for each byte. If it were a power of two, the
 /// entries of a byte in all rows would compete for a few cache lines.
@@ -42,8 +42,8 @@ pub struct Data {
     pub steps: Numbers,
     /// The index of each state's row.
     pub rows: Numbers,
-    /// The mark of each state. It is 0 if the state has no mark. Otherwise it is 2 plus twice the
-    /// leaf whose match the state records, plus 1 if the match ends one byte before the state.
+    /// The mark of each state, or 0 if the state has no mark. A mark is 2 plus twice the leaf whose
+    /// match the state records, plus 1 if the match ends one byte before the state.
     pub marks: Numbers,
     /// A number for each leaf: 1 if its matches are skipped without a callback, and 0 otherwise.
     pub skips: Numbers,
@@ -101,7 +101,7 @@ pub struct Unpacked<const STATES: usize, const RUNS: usize> {
     pub(crate) leads: [Leads; STATES],
     /// The number of distinct rows with a fast loop.
     pub(crate) loops: usize,
-    /// The number of each state.
+    /// The number of each state. The states that have a row have the lowest numbers.
     pub(crate) number: [u32; STATES],
     /// The layout of the rows.
     pub(crate) layout: Layout,
@@ -138,9 +138,8 @@ impl<const STATES: usize, const RUNS: usize> Unpacked<STATES, RUNS> {
         T::DATA.unpacked(<T::Source as Source>::IS_TEXT)
     }
 
-    /// Returns the rows of a lexer if they have an entry for each byte. The array then has an entry
-    /// for each state and column, and 256 additional entries. Otherwise returns zeros, since
-    /// `layout::Made` has the rows.
+    /// Returns the rows of a lexer, followed by 256 additional entries, if a row has an entry for
+    /// each byte, and zeros otherwise. The rows of other lexers are in `layout::Made`.
     pub const fn rows<'source, T, const N: usize>() -> [u32; N]
     where
         T: Tables<'source, Unpacked = Self>,
@@ -167,7 +166,7 @@ impl<const STATES: usize, const RUNS: usize> Unpacked<STATES, RUNS> {
         T::UNPACKED.all_masks()
     }
 
-    /// Returns the folded tables of a lexer if its rows have an entry for each byte, and zeros
+    /// Returns the folded tables of a lexer if a row has an entry for each byte, and zeros
     /// otherwise.
     pub const fn folded<'source, T, const N: usize>() -> [u32; N]
     where

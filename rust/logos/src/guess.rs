@@ -1,4 +1,4 @@
-//! Guesses the rows in which blocks begin. Called by `chunk`.
+//! The guesses of the rows in which the blocks of a chunk begin. Used by `chunk`.
 
 use crate::chunk::{step, BLOCK, BLOCKS, CHUNK};
 use crate::folded::{Folded, OFFSET_MASK};
@@ -21,7 +21,7 @@ const MOST: i8 = 8;
 
 /// The guessed row offsets of the blocks of a chunk.
 pub(crate) struct Guesses {
-    /// The row offsets in which the first walk over the blocks begins.
+    /// The offsets of the rows in which the blocks begin in the first walk.
     pub(crate) first: [u32; BLOCKS],
     /// The second candidates for the row offsets of the blocks, or `None` if there are no second
     /// candidates.
@@ -40,10 +40,11 @@ pub(crate) struct Guesser {
     /// The counters for pairs of candidates, indexed by the hash of a pair. A counter states how
     /// much more often the lower candidate was right than the higher candidate.
     counters: [i8; COUNTERS],
-    /// Whether a walk from a guess in the last chunk did not soon reach the right row.
+    /// Whether a walk from a guess in the last chunk did not reach the right row within
+    /// `chunk::SOON` bytes.
     pub(crate) missed: bool,
-    /// The average cost of recent chunks with guesses from few bytes, and of recent chunks with
-    /// line-based guesses.
+    /// The average costs of recent chunks: first with guesses from the last [`NEAR`] bytes before
+    /// each block, then with line-based guesses.
     costs: [usize; 2],
 }
 
@@ -82,7 +83,7 @@ impl Guesser {
     }
 
     /// Adds second candidates to `guesses`. Swaps the first and the second candidate for a block if
-    /// the second one has been right more often.
+    /// the second candidate has been right more often.
     fn add_second<'s, T: Tables<'s>>(&self, input: &[u8; CHUNK], guesses: &mut Guesses) {
         let mut second = T::guess_others(input, self.other);
         for (first, second) in guesses.first.iter_mut().zip(&mut second) {
@@ -94,9 +95,9 @@ impl Guesser {
         guesses.second = Some(second);
     }
 
-    /// Returns the row offsets in which a second walk over the blocks begins, after the guess for
-    /// the block at the index `k` was wrong. `right` is the right row offset of this block. Adds
-    /// second candidates to `guesses` if there are none.
+    /// Returns the offsets of the rows in which the blocks begin in a second walk. The guess for
+    /// the block at the index `k` was wrong, and `right` is the right row offset of this block.
+    /// Adds second candidates to `guesses` if there are none.
     pub(crate) fn second<'s, T: Tables<'s>>(
         &mut self,
         input: &[u8; CHUNK],
@@ -128,9 +129,10 @@ impl Guesser {
         }
     }
 
-    /// Records that the walk from the guess for the block at the index `k` did not soon reach the
-    /// right row. If the second candidate for the block was not right either, later second
-    /// candidates are computed from the row that `trace` has [`NEAR`] bytes before this block.
+    /// Records that the walk from the guess for the block at the index `k` did not reach the right
+    /// row within `chunk::SOON` bytes. If the second candidate for the block was not right either,
+    /// later second candidates are computed from the row that `trace` has [`NEAR`] bytes before
+    /// this block.
     pub(crate) fn miss(&mut self, guesses: &Guesses, k: usize, right: u32, trace: &[u32; CHUNK]) {
         self.missed = true;
         if guesses.second.map(|it| it[k]) != Some(right) {
@@ -139,8 +141,8 @@ impl Guesser {
     }
 
     /// Returns and records the cost of a chunk in which `again` bytes were processed again.
-    /// Decreases the recorded cost of the other kind of guesses, so that this kind is used again
-    /// from time to time.
+    /// Decreases the recorded cost of the other kind of guesses, so that the other kind is used
+    /// again from time to time.
     #[inline]
     pub(crate) fn cost(&mut self, guesses: &Guesses, again: usize) -> usize {
         let cost = AGAIN * again + EXAMINE * guesses.looked;

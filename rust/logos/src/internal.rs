@@ -1,4 +1,4 @@
-//! The interface between generated code and the runtime. Programs do not need it.
+//! The interface between generated code and the runtime. Programs do not use it directly.
 
 pub use crate::data::Data;
 pub use crate::data::{Data as _Data, Unpacked as _Unpacked};
@@ -65,7 +65,7 @@ pub trait Tables<'source>: Logos<'source> + Made<'source> {
 
     /// The type of the unpacked tables.
     type Unpacked: 'static;
-    /// The unpacked tables. The constants that follow are computed from them.
+    /// The unpacked tables. The constants below are computed from the unpacked tables.
     const UNPACKED: &'static Self::Unpacked;
 
     /// The rows that `lex` reads if rows have an entry for each byte. See [`_Unpacked::rows`].
@@ -91,8 +91,8 @@ pub trait Tables<'source>: Logos<'source> + Made<'source> {
     fn plain(leaf: usize) -> Option<Self>;
 
     /// Returns the outcome of the lexer's current match, which is a match of the leaf with the
-    /// number `leaf`. Calls the callback of the leaf, if it has one. Called if [`Tables::plain`]
-    /// returns `None` for the leaf.
+    /// number `leaf`. Calls the callback of the leaf if the leaf has one. Called if
+    /// [`Tables::plain`] returns `None` for the leaf.
     fn act(lexer: &mut Lexer<'source, Self>, leaf: usize) -> CallbackResult<'source, Self>;
 
     /// Returns the error for unmatched input.
@@ -106,8 +106,8 @@ pub trait Tables<'source>: Logos<'source> + Made<'source> {
     }
 }
 
-/// Returns `lexer`, changed to look ahead everywhere if `everywhere` is `true`, and nowhere
-/// otherwise. Tests compare the items that the lexer finds with each setting.
+/// Sets `lexer` to look ahead everywhere if `everywhere` is `true`, and nowhere otherwise. Returns
+/// the lexer. Tests compare the items that the lexer finds with each setting.
 pub fn looking<'source, Token: Tables<'source>>(
     mut lexer: Lexer<'source, Token>,
     everywhere: bool,
@@ -141,7 +141,8 @@ impl<'source, Token: Logos<'source>> From<SkipResult<'source, Token>>
     }
 }
 
-/// A type that a callback can return if its token has a value of the type `Value`.
+/// A type that a callback can return if the variant of the callback has a value of the type
+/// `Value`.
 pub trait CallbackRetVal<'source, Value, Token: Logos<'source>> {
     /// Returns the outcome of the match. If the outcome is a token, `constructor` makes the token
     /// from its value.

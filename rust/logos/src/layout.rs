@@ -1,11 +1,11 @@
-//! The layout of tables: which states have a row, and the columns of rows. Used by `run`, `rows`,
-//! `folded` and `characters`.
+//! The layout of tables, which determines the states that have a row, and the columns of the rows.
+//! Used by `run`, `rows`, `folded` and `characters`.
 //!
 //! If a lexer has many states, most of them are inside characters. In such a state only bytes from
 //! 0x80 to 0xBF lead to a state, and most of these bytes lead to one or two states. Such a state
-//! has no row. Instead it has either two entries, and the set of the bytes that have the second
-//! entry, or an entry for each byte from 0x80 to 0xBF: see [`Inside`]. The columns of rows are then
-//! the classes of the symbols in the states that have rows.
+//! has no row. Instead, [`Inside`] describes its entries: either two entries, with the set of the
+//! bytes that have the second entry, or an entry for each byte from 0x80 to 0xBF. The columns of
+//! rows are then the classes of the symbols in the states that have rows.
 //!
 //! If a lexer has few states, each state has a row, and each row has an entry for each byte.
 
@@ -37,7 +37,7 @@ pub struct Layout {
 /// is the sum of `first`, the bits of `mask` in the byte, and the byte's bit in `bits`.
 ///
 /// A state with at most two distinct entries has the mask 0, and `bits` contains the bytes that
-/// have the second entry. Any other state has an entry for each byte, and no bits.
+/// have the second entry. Any other state has an entry for each byte, and `bits` is 0.
 #[derive(Clone, Copy)]
 pub struct Inside {
     pub(crate) bits: u64,
@@ -165,7 +165,7 @@ where
     const FOLDED: Sets<STATES> = T::UNPACKED.folded_sets(T::LASTS);
 }
 
-/// The tables of a lexer as constants, with `N` entries.
+/// The tables of a lexer with `N` entries, as constants.
 struct Sized<'s, T, const N: usize>(PhantomData<(&'s (), T)>);
 
 impl<'s, T, const STATES: usize, const RUNS: usize, const N: usize> Sized<'s, T, N>
@@ -217,9 +217,9 @@ where
 }
 
 impl<const STATES: usize, const RUNS: usize> Unpacked<STATES, RUNS> {
-    /// Returns the number of each state, the layout, and the column of each class, followed by the
-    /// number of columns. The states that have a row have lower numbers than the states that have
-    /// none.
+    /// Returns the number of each state, the layout of the rows, and an array. The array contains
+    /// the column of each class, followed by the number of columns. The states that have a row have
+    /// lower numbers than the states without a row.
     pub(crate) const fn laid_out(&self) -> ([u32; STATES], Layout, [u16; SYMBOLS + 1]) {
         let (mut column, mut symbol) = ([0; SYMBOLS], 0);
         let (mut number, mut state, mut rows) = ([u32::MAX; STATES], 0, 0);
@@ -316,8 +316,8 @@ impl<const STATES: usize, const RUNS: usize> Unpacked<STATES, RUNS> {
         states
     }
 
-    /// Returns the elements of `values`, which has one element for each state, in the order of the
-    /// states' numbers.
+    /// Returns the elements of `values` in the order of the states' numbers. `values` must have one
+    /// element for each state.
     const fn by_numbers(&self, values: &[u32]) -> [u32; STATES] {
         let (mut by_numbers, mut state) = ([0; STATES], 0);
         while state < STATES {
@@ -327,9 +327,9 @@ impl<const STATES: usize, const RUNS: usize> Unpacked<STATES, RUNS> {
         by_numbers
     }
 
-    /// Returns the steps of the states without a row. Their entries begin at the index `first` of
-    /// the rows. `lasts` contains the last match in each state. States that lead only to the same
-    /// state can share their two entries.
+    /// Returns the steps of the states without a row. The entries of these states begin at the
+    /// index `first` of the rows. `lasts` contains the last match in each state. States that lead
+    /// only to one and the same state can share their two entries.
     pub(crate) const fn sets(&self, first: usize, lasts: &[u32]) -> Sets<STATES> {
         let (mut sets, mut state, rows) = (Sets::NONE, 0, self.layout.rows);
         let mut shared = [[0; 2]; STATES];
@@ -383,7 +383,7 @@ impl<const STATES: usize, const RUNS: usize> Unpacked<STATES, RUNS> {
 }
 
 impl<const STATES: usize> Sets<STATES> {
-    /// The value before the steps of any state are computed.
+    /// The initial value, without steps and without entries.
     pub(crate) const NONE: Sets<STATES> = Sets {
         insides: [NO_INSIDE; STATES],
         entries: 0,

@@ -127,12 +127,13 @@ impl<'source, Token: Logos<'source>> Lexer<'source, Token> {
         Scanner::new(self)
     }
 
-    /// Returns an iterator over the tokens and errors that follow and do not depend on the bytes
-    /// after this input, which is a part of a longer input. After the last item,
-    /// [`Lexer::remainder`] returns the text with which the next part must begin.
+    /// Returns an iterator over the tokens and errors that follow, with their spans, for an input
+    /// that is a part of a longer input. The iterator yields only the items that do not depend on
+    /// the bytes after this part. After the last item, [`Lexer::remainder`] returns the text with
+    /// which the next part must begin.
     ///
-    /// Callbacks must read only their match. Any other text that they read belongs to this part,
-    /// and not to the longer input.
+    /// Callbacks must read only their match. Any other text that a callback reads is the text of
+    /// this part instead of the longer input.
     pub fn scan_part(mut self) -> Scanner<'source, Token>
     where
         Token: Scan<'source>,

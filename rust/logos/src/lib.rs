@@ -1,18 +1,19 @@
 //! Lexers from enums: `#[derive(Logos)]`, and the runtime of the generated lexers.
 //!
 //! The trait [`Logos`] is implemented by the derive macro, or by generated code that the program
-//! `logos_cli` prints. [`Logos::lexer`] returns a lexer on an input, which is an iterator over
+//! `logos_cli` prints. [`Logos::lexer`] returns a lexer on an input. The lexer is an iterator over
 //! tokens. A table-driven lexer looks ahead by chunks of the input where this saves time.
 //!
-//! A `for` loop is as fast as `for_each` if the compiler keeps the lexer in registers. It can do so
-//! if there is one call of `next`, and each function that takes the lexer is inlined. With several
-//! calls of `next`, the lexer is in memory, and each token costs a few more loads and stores.
+//! A `for` loop is as fast as `for_each` if the compiler keeps the lexer in registers. The compiler
+//! can do so if there is one call of `next`, and each function that takes the lexer is inlined.
+//! With several calls of `next`, the lexer is in memory, and each token costs additional loads and
+//! stores.
 //!
 //! # Features
 //!
 //! - `export_derive`, on by default: the derive macro.
 //! - `std`, on by default: a [`Lexer`] looks ahead, and stores the items that it found in a box.
-//!   Everything except this needs only `core`.
+//!   Without this feature, the crate needs only `core`.
 //! - `state_machine_codegen`: the derive macro prints the shape `state_machine`, not `tables`.
 //! - `debug`: the derive macro prints the implementations on standard error.
 //! - `forbid_unsafe`: [`Source`] has no unsafe methods. This crate has no unsafe code either way.

@@ -29,8 +29,8 @@ struct Range {
 const MOST_RANGES: usize = 4;
 
 /// The ranges of the bytes that a fast loop consumes, and the number of these ranges. If there are
-/// fewer than `MOST_RANGES`, the first range is repeated. If there are more, only the first ranges
-/// are stored.
+/// fewer than `MOST_RANGES` ranges, the first range is repeated. If there are more, only the first
+/// `MOST_RANGES` ranges are stored.
 pub struct Ranges([Range; MOST_RANGES], usize);
 
 impl<const STATES: usize, const RUNS: usize> Unpacked<STATES, RUNS> {
@@ -148,7 +148,7 @@ const NONE: Ranges = {
 
 /// Returns a bit for each byte of a block. The bit is set if the fast loop does not consume the
 /// byte. Sums of distinct bits are equal to unions, and keep the compiler from joining all eight
-/// operations in one long chain.
+/// operations in one chain.
 #[inline(always)]
 fn bits(mask: &Mask, block: &[u8; 8]) -> u8 {
     let low = mask[block[0] as usize][0] | mask[block[1] as usize][1];
@@ -158,10 +158,10 @@ fn bits(mask: &Mask, block: &[u8; 8]) -> u8 {
     low | high
 }
 
-/// Returns a number for each byte of a block, the number of the first byte in the lowest eight
-/// bits. The number is 0 if the byte is in one of the first `most` ranges, and otherwise the least
-/// distance from the end of one of these ranges up to the byte. Compilers vectorize the loops of
-/// this function.
+/// Returns a number for each byte of a block. The lowest eight bits contain the number of the first
+/// byte. The number of a byte is 0 if the byte is in one of the first `most` ranges, and otherwise
+/// the least distance from the end of one of these ranges up to the byte. Compilers vectorize the
+/// loops of this function.
 #[inline(always)]
 fn past(ranges: &Ranges, most: usize, block: &[u8; 16]) -> u128 {
     let (mut past, mut k) = ([0u8; 16], 0);
@@ -200,8 +200,8 @@ pub(crate) trait Loops<'source>: Tables<'source> {
 
     /// Returns the byte offset of the first byte at or after `from` that the fast loop with the
     /// number `number` does not consume, or the end of the input if there is no such byte. The
-    /// search after the first bytes is called out of line, so that all registers are available to
-    /// the loop over match attempts.
+    /// search after the first eight bytes is called out of line, so that all registers are
+    /// available to the loop over match attempts.
     #[inline(always)]
     fn stop(number: usize, bytes: &[u8], from: usize) -> usize {
         let Some(rest) = bytes.get(from..) else {
@@ -218,10 +218,10 @@ pub(crate) trait Loops<'source>: Tables<'source> {
         from + bits.trailing_zeros() as usize
     }
 
-    /// Like [`Loops::stop`], for the bytes after the first ones. Each of the first four fast loops
+    /// Like [`Loops::stop`], for the bytes after the first eight. Each of the first four fast loops
     /// has its own function, which a branch selects, so that the search does not wait for a load
-    /// from a table. The caller passes its masks, so that the part of the program with this
-    /// function needs no copy of them.
+    /// from a table. The caller passes the masks, so that the codegen unit of this function needs
+    /// no copy of the masks.
     #[inline(never)]
     fn stop_far(masks: &'static [Mask], number: usize, bytes: &[u8], from: usize) -> usize {
         match number {

@@ -15,11 +15,11 @@ pub(crate) const NUMBERS: u32 = ONE_KIND - 1;
 pub(crate) const STAYS: u32 = ONE_KIND;
 /// The bit that is added to [`STAYS`] if each of the next bytes has its own branch.
 pub(crate) const SINGLY: u32 = ONE_KIND / 2;
-/// The kind of an entry before whose byte a match of the leaf ends. The next higher kind is used
-/// for leaves whose matches are skipped without a callback.
+/// The kind of an entry before whose byte a match of the entry's leaf ends. The next higher kind is
+/// used for leaves whose matches are skipped without a callback.
 pub(crate) const ENDS: u32 = 2 * ONE_KIND;
-/// The kind of an entry after whose byte a match of the leaf ends. No byte continues this match.
-/// The next higher kind is used for leaves whose matches are skipped without a callback.
+/// The kind of an entry after whose byte a match of the entry's leaf ends. No byte continues this
+/// match. The next higher kind is used for leaves whose matches are skipped without a callback.
 pub(crate) const CLOSES: u32 = 4 * ONE_KIND;
 /// The entry of a byte that leads to no state, and before which no match ends.
 pub(crate) const NOWHERE: u32 = 6 * ONE_KIND;
@@ -210,9 +210,9 @@ impl<const STATES: usize, const RUNS: usize> Unpacked<STATES, RUNS> {
 /// the attempt. All numbers are 0 for a state to which no bytes are known to lead.
 type Before = [u32; 3];
 
-/// Returns the last match in a state, and the last match before each state to which it leads.
-/// `mark` is the mark of the state, `loops` is `true` if the state has a fast loop, and `before` is
-/// the last match before the state.
+/// Returns the last match in a state, and the last match before each state to which the state
+/// leads. `mark` is the mark of the state, `loops` is `true` if the state has a fast loop, and
+/// `before` is the last match before the state.
 const fn last_in(mark: u32, loops: bool, before: Before) -> (u32, Before) {
     let (leaf, late) = ((mark / 2) << 8, mark % 2);
     let [mut back, mut forth, mut since] = before;
@@ -251,8 +251,8 @@ const fn last_in(mark: u32, loops: bool, before: Before) -> (u32, Before) {
     (last, [back, forth, since])
 }
 
-/// Returns the last match before a state to which bytes lead in two ways. `before` is the last
-/// match of one way, and `after` is the last match of the other way.
+/// Returns the last match before a state to which two ways lead. `before` is the last match on one
+/// way, and `after` is the last match on the other way.
 const fn met(before: Before, after: Before) -> Before {
     let [back, forth, since] = before;
     [

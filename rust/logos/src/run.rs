@@ -19,8 +19,8 @@ use core::ops::ControlFlow::{self, Break, Continue};
 type Step<'source, Token, Next> =
     ControlFlow<Option<Result<Token, <Token as Logos<'source>>::Error>>, Next>;
 
-/// Does nothing. A call hints to the compiler that its branch is rare, so that match attempts have
-/// the registers.
+/// Does nothing. A call of this function hints to the compiler that the branch with the call is
+/// rare, so that the registers remain available to match attempts.
 #[cfg(feature = "std")]
 #[cold]
 fn away() {}
@@ -94,7 +94,7 @@ pub(crate) trait Run<'source>: Loops<'source> {
         rows[state as usize + Self::column(byte)]
     }
 
-    /// Returns the entry of `byte` in `state`, which has no row.
+    /// Returns the entry of `byte` in `state`, which must have no row.
     #[inline(always)]
     fn step_inside(rows: &'static [u32], state: u32, byte: u8) -> u32 {
         if !Self::IS_TEXT && !continues(byte) {
@@ -112,11 +112,11 @@ pub(crate) trait Run<'source>: Loops<'source> {
         state as usize / Self::COLUMNS
     }
 
-    /// Continues an attempt at the byte offset `from`, in the state `first`, which has no row.
-    /// Reads the rest of the character, and the characters after it that are not ASCII. Returns the
-    /// last entry, the offset after the entry's byte, and the state before this byte. If the input
-    /// ends inside a character, the entry is [`NOWHERE`], and the offset is 1 plus the length of
-    /// the input.
+    /// Continues an attempt at the byte offset `from`, in the state `first`, which must have no
+    /// row. Reads the rest of the character, and the characters after it that are not ASCII.
+    /// Returns the last entry, the offset after the entry's byte, and the state before this byte.
+    /// If the input ends inside a character, the entry is [`NOWHERE`], and the offset is 1 plus the
+    /// length of the input.
     #[inline(never)]
     fn walk_characters(
         rows: &'static [u32],
@@ -136,8 +136,8 @@ pub(crate) trait Run<'source>: Loops<'source> {
     }
 
     /// Continues an attempt at the byte offset `from` over the characters that are not ASCII and
-    /// lead from `state` back to it. Also reads the next character if its first byte leads to a
-    /// state without a row. Returns the last entry, the offset after the entry's byte, and the
+    /// lead from `state` back to `state`. Also reads the next character if its first byte leads to
+    /// a state without a row. Returns the last entry, the offset after the entry's byte, and the
     /// state before this byte.
     // In the loop the state does not change: so the steps of a character do not wait for those of
     // the one before.
@@ -163,8 +163,8 @@ pub(crate) trait Run<'source>: Loops<'source> {
         (state, at, state)
     }
 
-    /// Continues an attempt at the byte offset `from`, in the state `first`, which has no row.
-    /// Reads the rest of the character. Returns the same values as [`Run::walk_characters`].
+    /// Continues an attempt at the byte offset `from`, in the state `first`, which must have no
+    /// row. Reads the rest of the character. Returns the same values as [`Run::walk_characters`].
     #[inline(always)]
     fn end_character(
         rows: &'static [u32],
@@ -204,11 +204,11 @@ pub(crate) trait Run<'source>: Loops<'source> {
         }
     }
 
-    /// Repeats the attempt that begins at the byte offset `start`, byte by byte, with the marks of
-    /// the states that it enters. Returns the leaf and the end of the last match. If there is no
-    /// match, returns a number that no leaf has, and the offset at which the attempt ended. The
-    /// caller passes its rows, so that the part of the program with this function needs no copy of
-    /// them.
+    /// Repeats the attempt that begins at the byte offset `start`, byte by byte, and reads the
+    /// marks of the states that the attempt enters. Returns the leaf and the end of the last match.
+    /// If there is no match, returns a number that no leaf has, and the offset at which the attempt
+    /// ended. The caller passes the rows, so that the codegen unit of this function needs no copy
+    /// of the rows.
     #[cold]
     #[inline(never)]
     fn try_again(rows: &'static [u32], bytes: &[u8], start: usize) -> (usize, usize) {
@@ -442,9 +442,9 @@ pub(crate) trait Run<'source>: Loops<'source> {
         }
     }
 
-    /// Returns the item of a match of `leaf` that has the lexer's span. The item is an error if no
-    /// leaf has the number `leaf`. Returns `Continue` with the leaf if the caller has to complete
-    /// the match with [`Run::act_on`].
+    /// Returns the item of a match of `leaf`. The lexer's span is the span of the match. The item
+    /// is an error if no leaf has the number `leaf`. Returns `Continue` with the leaf if the caller
+    /// has to complete the match with [`Run::act_on`].
     #[cfg(feature = "std")]
     #[inline(always)]
     fn found(lex: &mut Lexer<'source, Self>, leaf: usize) -> Step<'source, Self, Option<usize>> {
@@ -466,7 +466,7 @@ pub(crate) trait Run<'source>: Loops<'source> {
     }
 
     /// Returns the error that the lexer has found ahead. Moves the end of the error to the first
-    /// boundary at or after it.
+    /// boundary at or after the present end.
     #[cfg(feature = "std")]
     #[inline(always)]
     fn error_ahead(lex: &mut Lexer<'source, Self>) -> Self::Error {

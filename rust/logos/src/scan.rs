@@ -8,8 +8,8 @@ use core::ops::{Deref, DerefMut};
 
 /// An enum with a table-driven lexer.
 ///
-/// The derive macro and `logos_cli` implement this trait together with [`Logos`](crate::Logos) in
-/// the shape `tables`.
+/// Each enum for which the derive macro or `logos_cli` prints a lexer in the shape `tables`
+/// implements this trait together with [`Logos`](crate::Logos).
 #[diagnostic::on_unimplemented(
     message = "`{Self}` has no lexer that scans",
     label = "its lexer is no table",
@@ -25,8 +25,9 @@ pub trait Scan<'source>: Tables<'source> {
         Lexer::new(source).scan()
     }
 
-    /// Returns an iterator over the tokens and errors of `source` that do not depend on the bytes
-    /// after it. `source` is the first part of an input. See [`Lexer::scan_part`].
+    /// Returns an iterator over the tokens and errors of `source`, the first part of an input, with
+    /// their spans. The iterator yields only the items that do not depend on the bytes after
+    /// `source`. See [`Lexer::scan_part`].
     fn scan_part(source: &'source Self::Source) -> Scanner<'source, Self>
     where
         Self::Extras: Default,

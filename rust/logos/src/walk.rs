@@ -21,9 +21,8 @@ const ENTER: usize = 19;
 /// The factor by which the cost of guesses is multiplied. With a factor of 1, walks were chosen on
 /// texts on which many guesses fail, and were slower than match attempts.
 const GUESSES: usize = 2;
-/// The denominator of the fraction of bytes, three quarters, that limits walks. If a greater
-/// fraction of bytes end a match, processors predict the branches of match attempts, which are then
-/// faster than walks.
+/// The denominator of the limit 3/4. If a match ends at more than three quarters of the bytes,
+/// processors predict the branches of match attempts, and match attempts are faster than walks.
 const ALMOST_ALL: usize = 4;
 /// The minimum number of chunks that match attempts process if walks do not save time.
 const FEWEST_PLAIN: usize = 4;
@@ -67,7 +66,7 @@ pub(crate) struct Walk {
     /// The cost that recent walks have saved.
     gain: isize,
     /// The number of chunks that match attempts processed when walks last did not save time. Each
-    /// later walk that saves time halves it.
+    /// later walk that saves time halves the number.
     plain: usize,
     /// Whether the next walk processes only [`TRIAL`] bytes.
     tries: bool,
@@ -105,8 +104,8 @@ pub(crate) fn new_room(way: Way) -> Room {
 }
 
 impl Walk {
-    /// Returns the leaf and the end of the first token in `tokens`, the bits of the word's tokens.
-    /// At least one bit must be set. Returns `None` if the first set bit is after the end of the
+    /// Returns the leaf and the end of the first token of the word whose bit is set in `tokens`. At
+    /// least one bit must be set. Returns `None` if the first set bit is after the end of the
     /// chunk.
     #[inline(always)]
     pub(crate) fn token(&self, tokens: u64) -> Option<(usize, usize)> {
@@ -115,8 +114,8 @@ impl Walk {
         Some((leaf, self.word.here + bit))
     }
 
-    /// Moves to the next word of the chunk, and returns its tokens. Returns `None` if the chunk has
-    /// no next word, the word is cut, or the lexer was moved.
+    /// Moves to the next word of the chunk, and returns the bits of the word's tokens. Returns
+    /// `None` if the chunk has no next word, the current word is cut, or the lexer was moved.
     #[inline(always)]
     pub(crate) fn next_word(&mut self) -> Option<u64> {
         let word = &self.word;
@@ -166,8 +165,8 @@ impl Walk {
         self.cut
     }
 
-    /// Walks over the next chunk. The last match ended at the byte offset `start`. Returns the
-    /// tokens of the chunk's first word.
+    /// Walks over the next chunk. The last match ended at the byte offset `start`. Returns the bits
+    /// of the tokens in the chunk's first word.
     #[inline]
     pub(crate) fn walk<'s, T: Tables<'s>>(&mut self, bytes: &[u8], start: usize) -> u64 {
         self.base += self.len;
@@ -193,8 +192,8 @@ impl Walk {
         (self.len, self.row_start, self.cost) = (CHUNK, walked.row_start, walked.cost);
     }
 
-    /// Walks over `rest`, which has fewer bytes than a whole chunk. Sets the length of the chunk,
-    /// the row offset after it, and the cost.
+    /// Walks over `rest`, which must have fewer bytes than a whole chunk. Sets the length of the
+    /// chunk, the row offset after it, and the cost.
     #[inline]
     fn walk_rest<'s, T: Tables<'s>>(&mut self, rest: &[u8]) {
         let walked = self.chunk.walk_rest::<T>(rest, self.row_start);
@@ -233,9 +232,9 @@ impl Walk {
         }
     }
 
-    /// Lets the next match begin at the byte offset `start`, and repairs the entries from there on.
-    /// Returns the tokens of the word that contains the offset. If the offset is not in the chunk,
-    /// forgets the chunk and returns 0.
+    /// Lets the next match begin at the byte offset `start`, and repairs the entries from this
+    /// offset on. Returns the bits of the tokens in the word that contains the offset. If the
+    /// offset is not in the chunk, forgets the chunk and returns 0.
     #[inline]
     pub(crate) fn begin_at<'s, T: Tables<'s>>(&mut self, bytes: &[u8], start: usize) -> u64 {
         let root = <T as Folded>::ROOT;

@@ -1,4 +1,5 @@
-//! Prints the enums of a source, from which the page selects an enum. Used by the program `enums`.
+//! `print` appends a line for each enum of a source. The page uses the lines to select an enum.
+//! Called for the program `enums`.
 
 use logos_build::logos_rust_file::{enums_in, path_of};
 use rattle_std::alloc::{AllocError, Global};

@@ -1,5 +1,5 @@
-//! The system on which the programs run in a page. It has two texts as files, an empty standard
-//! input, no clock and no environment variables.
+//! Defines the system on which the programs run in a page. The system has two texts as files, an
+//! empty standard input, no clock and no environment variables.
 
 use logos_build::logos_host::{ComparableFiles, FileError, Files, Occurrence, Reason};
 use rattle_std::alloc::{AllocError, Global};
@@ -82,7 +82,7 @@ impl Env for NoSystem {
     }
 }
 
-/// A reader that is at its end.
+/// A reader that is always at the end of its input.
 pub struct Empty;
 
 impl Read for Empty {

@@ -1,9 +1,10 @@
-//! The programs `logos_show` and `logos` as WebAssembly. Used by the worker of the playground's
-//! page.
+//! Runs the programs `logos_show` and `logos` as WebAssembly. Called by the worker of the
+//! playground's page.
 //!
 //! A slot is a list of bytes. The page fills [`ARGUMENTS`], [`SOURCE`] and [`INPUT`], calls
 //! [`run`], and reads [`OUTPUT`] and [`MESSAGES`]. The programs are those that Cargo builds. Their
-//! only files are the source and the input, and their output is written to the last two slots.
+//! only files are the source and the input, and their output is written to [`OUTPUT`] and
+//! [`MESSAGES`].
 
 #![deny(unsafe_code)]
 #![warn(missing_docs)]
@@ -19,7 +20,7 @@ use rattle_std::string::String as Argument;
 use rattle_std::vec::Vec as List;
 use std::sync::{Mutex, MutexGuard, PoisonError};
 
-/// The slot of the name of the program and the program's arguments, each on its own line.
+/// The slot of the program's name and of each argument of the program, each on its own line.
 pub const ARGUMENTS: usize = 0;
 /// The slot of the bytes of the file `lexer.rs`.
 pub const SOURCE: usize = 1;
@@ -93,7 +94,7 @@ pub extern "C" fn run() -> u32 {
 }
 
 /// Runs the program that the slot [`ARGUMENTS`] names, and returns its exit status. Appends the
-/// program's output to `out` and `messages`.
+/// program's output to `out`, and its messages to `messages`.
 fn answer(slots: &[Vec<u8>; 5], out: &mut List<u8>, messages: &mut List<u8>) -> u8 {
     let Ok(text) = str::from_utf8(&slots[ARGUMENTS]) else {
         return MISUSE;

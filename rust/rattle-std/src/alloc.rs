@@ -60,7 +60,7 @@ impl From<AllocError> for fmt::Error {
 /// `len`, and claims the added bytes.
 ///
 /// `capacity` is the present capacity, and `size` is the number of bytes of an item. The capacity
-/// at least doubles, so adding items one at a time takes linear time.
+/// at least doubles, so adding an item takes amortized constant time.
 ///
 /// # Errors
 ///

@@ -14,8 +14,10 @@ pub trait Env {
     ///
     /// # Errors
     ///
-    /// Returns `NotPresent` if there is no such argument, or `TooLong` if the argument is longer
-    /// than `buf`.
+    /// Returns:
+    ///
+    /// - `NotPresent` if there is no such argument.
+    /// - `TooLong` if the argument is longer than `buf`.
     fn arg(&self, i: usize, buf: &mut [u8]) -> Result<usize, FillError>;
 
     /// Writes the value of the environment variable `name` to the beginning of `buf`, and returns

@@ -1,8 +1,7 @@
-//! Replaces Rattle's `std::fs`: files, folders and links, identified by their paths.
+//! Replaces Rattle's `std::fs`: files, directories and links, identified by their paths.
 //!
-//! Paths are texts in the form of Unix. Some of Linux's paths that the crates use have their
-//! meaning on other systems, too: `/dev/stdin` is standard input, and `/proc/self` is a link to the
-//! process ID.
+//! Paths are texts in the syntax of Unix. The following paths have the same meaning on all systems
+//! as on Linux: `/dev/stdin` is the standard input, and `/proc/self` is a link to the process ID.
 
 mod metadata;
 
@@ -21,16 +20,18 @@ const STANDARD_INPUT: &str = "/dev/stdin";
 /// The path of the link from which the crates read the process ID.
 const OWN_PROCESS: &str = "/proc/self";
 
-/// The path at which the crates read the file of the program itself.
+/// The path at which the crates read the executable file of the program itself.
 const PROGRAM: &str = "/proc/self/exe";
 
-/// The bytes that are read instead of the file of the program itself, if they are set.
+/// The bytes that are read instead of the executable file of the program, once [`set_program`] has
+/// set them.
 static PROGRAM_BYTES: OnceLock<&'static [u8]> = OnceLock::new();
 
-/// Sets the bytes that are read at `/proc/self/exe` instead of the file of the program itself.
+/// Sets the bytes that are read at `/proc/self/exe` instead of the executable file of the program.
 ///
-/// A program searches these bytes for the commit from which it was built, and calls this function
-/// first. Only the first call has an effect.
+/// The bytes contain the commit from which the program was built, and the program searches them for
+/// this commit. A program calls this function before it opens a file. Only the first call has an
+/// effect.
 pub fn set_program(bytes: &'static [u8]) {
     let _ = PROGRAM_BYTES.set(bytes);
 }
@@ -62,7 +63,7 @@ impl Files for HostRuntime {
 pub struct PathBuf(String);
 
 impl PathBuf {
-    /// Returns the text of `path`, with `/` as the separator of its names.
+    /// Returns the text of `path`, with its components separated by `/`.
     ///
     /// # Errors
     ///
@@ -104,8 +105,11 @@ pub fn read<R: Files>(rt: &R, path: &str) -> io::Result<Vec<u8>> {
 ///
 /// # Errors
 ///
-/// Returns the error that the system reports, an error of the kind `InvalidData` if the text is not
-/// UTF-8, or an error of the kind `OutOfMemory` if memory runs out.
+/// Returns:
+///
+/// - The error that the system reports.
+/// - An error of the kind `InvalidData` if the text is not UTF-8.
+/// - An error of the kind `OutOfMemory` if memory runs out.
 pub fn read_to_string<R: Files>(rt: &R, path: &str) -> io::Result<String> {
     String::from_utf8(read(rt, path)?).map_err(|_| Error::from(ErrorKind::InvalidData))
 }
@@ -125,8 +129,11 @@ pub fn write<R: Files>(_rt: &R, path: &str, bytes: &[u8]) -> io::Result<()> {
 ///
 /// # Errors
 ///
-/// Returns the error that the system reports, an error of the kind `InvalidData` if the target is
-/// not UTF-8, or an error of the kind `OutOfMemory` if memory runs out.
+/// Returns:
+///
+/// - The error that the system reports.
+/// - An error of the kind `InvalidData` if the target is not UTF-8.
+/// - An error of the kind `OutOfMemory` if memory runs out.
 pub fn read_link<R: Files>(_rt: &R, path: &str) -> io::Result<PathBuf> {
     if cfg!(not(target_os = "linux")) && path == OWN_PROCESS {
         let number = std::process::id();
@@ -135,12 +142,15 @@ pub fn read_link<R: Files>(_rt: &R, path: &str) -> io::Result<PathBuf> {
     PathBuf::of(&std::fs::read_link(path)?)
 }
 
-/// Returns the absolute path of the file or folder at `path`, with all links resolved.
+/// Returns the absolute path of the file or directory at `path`, with all links resolved.
 ///
 /// # Errors
 ///
-/// Returns the error that the system reports, an error of the kind `InvalidData` if the absolute
-/// path is not UTF-8, or an error of the kind `OutOfMemory` if memory runs out.
+/// Returns:
+///
+/// - The error that the system reports.
+/// - An error of the kind `InvalidData` if the absolute path is not UTF-8.
+/// - An error of the kind `OutOfMemory` if memory runs out.
 pub fn canonicalize<R: Files>(_rt: &R, path: &str) -> io::Result<PathBuf> {
     PathBuf::of(&std::fs::canonicalize(path)?)
 }
@@ -163,8 +173,8 @@ pub fn remove_file<R: Files>(_rt: &R, path: &str) -> io::Result<()> {
     Ok(std::fs::remove_file(path)?)
 }
 
-/// Creates the folder at `path` and all missing folders that contain it. Does nothing if the folder
-/// exists.
+/// Creates the directory at `path` and all its missing parent directories. Does nothing if the
+/// directory exists.
 ///
 /// # Errors
 ///
@@ -175,23 +185,25 @@ pub fn create_dir_all<R: Files>(_rt: &R, path: &str) -> io::Result<()> {
     Ok(std::fs::create_dir_all(folder.as_path())?)
 }
 
-/// An entry of a folder: a file, or another folder.
+/// An entry of a directory: a file, or another directory.
 pub struct DirEntry(String);
 
 impl DirEntry {
-    /// Returns the name of the entry, without the path of its folder.
+    /// Returns the name of the entry, without the path of the directory.
     pub fn file_name(&self) -> &str {
         &self.0
     }
 }
 
-/// Returns an iterator over the entries of the folder at `path`.
+/// Returns an iterator over the entries of the directory at `path`.
 ///
 /// # Errors
 ///
-/// Returns the error that the system reports. Each item of the iterator may be an error as well:
-/// the error that the system reports, an error of the kind `InvalidData` if the name of the entry
-/// is not UTF-8, or an error of the kind `OutOfMemory` if memory runs out.
+/// Returns the error that the system reports. Each item of the iterator may also be an error:
+///
+/// - The error that the system reports.
+/// - An error of the kind `InvalidData` if the name of the entry is not UTF-8.
+/// - An error of the kind `OutOfMemory` if memory runs out.
 pub fn read_dir<R: Files>(
     _rt: &R,
     path: &str,

@@ -115,8 +115,11 @@ impl<R: Read> Read for Take<R> {
 ///
 /// # Errors
 ///
-/// Returns the error that the system reports, an error of the kind `InvalidData` if the text is not
-/// UTF-8, or an error of the kind `OutOfMemory` if memory runs out.
+/// Returns:
+///
+/// - The error that the system reports.
+/// - An error of the kind `InvalidData` if the text is not UTF-8.
+/// - An error of the kind `OutOfMemory` if memory runs out.
 pub fn read_to_string<R: Read>(alloc: Global, mut reader: R) -> Result<String> {
     let mut bytes = Vec::new(alloc);
     reader.read_to_end(&mut bytes)?;
@@ -175,8 +178,8 @@ pub trait Write {
     }
 }
 
-/// A writer that passes the pieces of a formatted text to the writer `to`. `error` is the error of
-/// `to`, if there was one.
+/// A formatter that writes formatted text to the writer `to`. `error` is the error of `to`, if
+/// there was one.
 struct Pieces<'w, W: ?Sized> {
     to: &'w mut W,
     error: Option<Error>,

@@ -1,5 +1,6 @@
-//! The methods of Rust's own types that take an allocator in Rattle. In erased files, each method
-//! has another name of equal length. Used by erased files, and by the macros `format` and `vec`.
+//! Methods of Rust's own types that take an allocator in Rattle. In erased files, each of these
+//! methods has a different name that is as long as the name in Rattle, such as `list_in` for
+//! `collect`. Used by erased files, and by the macros `format` and `vec`.
 
 use crate::alloc::{AllocError, Global};
 use crate::string::String;
@@ -21,7 +22,7 @@ pub trait ListIn: Iterator + Sized {
 
 impl<I: Iterator> ListIn for I {}
 
-/// A collection that is made from the items of an iterator.
+/// A collection that can be made from the items of an iterator.
 pub trait FromItems<T>: Sized {
     /// Returns a collection of all items of `items`.
     ///

@@ -3,7 +3,7 @@
 /// Rattle's traits for Unix. On other systems, only the number of a file has a meaning, and setting
 /// a mode has no effect.
 pub mod unix {
-    /// The traits for the mode and the identity of a file.
+    /// The traits for the metadata and the permissions of a file.
     pub mod fs {
         pub use crate::fs::{MetadataExt, PermissionsExt};
     }

@@ -2,7 +2,7 @@
 //! of numbers.
 //!
 //! A vector is an array. Operations that would be slow as loops call functions of `blocks` for 16
-//! bytes at a time. These functions use instructions of x86-64 and of 64-bit ARM, and loops on
+//! bytes at a time. These functions use vector instructions on x86-64 and 64-bit ARM, and loops on
 //! other machines.
 
 mod blocks;
@@ -102,9 +102,9 @@ impl<T: Copy, const N: usize> Simd<T, N> {
     }
 }
 
-/// Returns whether the 16, 32 or 64 `indices` begin with `first`, and each following index is the
-/// preceding index plus `step`. The compiler can evaluate this function for constant indices, but
-/// could not evaluate nested loops.
+/// Returns whether `indices` begin with `first`, and each following index is the preceding index
+/// plus `step`. There must be 16, 32 or 64 indices. The compiler can evaluate this function for
+/// constant indices, but could not evaluate nested loops.
 #[inline(always)]
 fn have_steps<const M: usize>(indices: &[usize; M], first: usize, step: usize) -> bool {
     const { assert!(M == 16 || M == 32 || M == 64) };

@@ -185,7 +185,7 @@ impl Clone for String {
     }
 }
 
-/// The error for bytes that are not UTF-8, with the bytes.
+/// The error of [`String::from_utf8`]. Contains the bytes that are not UTF-8.
 #[derive(Debug)]
 pub struct FromUtf8Error {
     bytes: Vec<u8>,

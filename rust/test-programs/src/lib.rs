@@ -1,5 +1,5 @@
-//! Contains the programs of the tests and the examples in Rattle. Each program is a module, without
-//! its contracts.
+//! Contains the Rattle programs of the tests and the examples. Each program is a module whose
+//! contracts were erased.
 
 #![no_std]
 #![forbid(unsafe_code)]

@@ -126,7 +126,7 @@ fn build_nodes(alloc: Global, nodes: &[Node], looks: bool) -> Result<Dfa, BuildE
     })
 }
 
-/// Builds the automaton of `rules`. The size of all trees together must be within the limit.
+/// Builds the automaton of `rules`. The total size of all trees must be at most 1,048,576.
 ///
 /// # Errors
 ///

@@ -1,5 +1,5 @@
-//! Returns the number of states of an automaton, and the parts of each state. Called by `faults`,
-//! `logos_attempts`, `logos_evidence`, `logos_graph` and `logos_html`.
+//! Functions that return the number of states of an automaton, and the leaves and targets of each
+//! state. Called by `faults`, `logos_attempts`, `logos_evidence`, `logos_graph` and `logos_html`.
 
 ghost use Rattle.std.specs.Prelude.{◌≡◌, ◌<◌, Some, length, slice_get};
 ghost use Rattle.logos_automaton.specs.DfaView.{dfa_of};

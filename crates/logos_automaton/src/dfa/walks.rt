@@ -1,5 +1,5 @@
-//! Defines the public interface for walking through an automaton from state to state. Called by
-//! `logos_causes`, `logos_evidence`, `logos_html` and users of the library.
+//! Defines the public interface for walking through an automaton from state to state. Also used by
+//! `logos_causes`, `logos_evidence` and `logos_html`.
 
 ghost use Rattle.std.specs.Prelude.{◌≤◌, ◌≡◌};
 
@@ -26,7 +26,7 @@ pub struct Children<'d> {
     end: Option<u32>,
 }
 
-/// An iterator over the states of an automaton, in ascending order.
+/// An iterator over the states of an automaton, in ascending order of their numbers.
 #[derive(Clone, Copy)]
 pub struct DfaStates {
     next: usize,
@@ -111,8 +111,8 @@ impl Dfa {
         }
     }
 
-    /// Returns all states of the automaton, in ascending order. The first one is the start, from
-    /// which bytes and the end lead to all others.
+    /// Returns all states of the automaton, in ascending order of their numbers. The first state is
+    /// the start, from which bytes and the end lead to all others.
     pub fn get_states(&self) -> DfaStates
         ensures all { states_left result ≡ range_with_len 0 (length (dfa_of self.now).matches) }
         ensures reached { (s : ℕ) → Contains (states_left result) s ↔

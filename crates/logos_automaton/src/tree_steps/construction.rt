@@ -57,7 +57,7 @@ fn add_step(found: &mut Vec<TreeStep>, step: TreeStep) -> Result<usize, AllocErr
     Ok(i)
 }
 
-/// Returns the step of the tree of `state` from this state for `byte`.
+/// Returns the step for `byte` from `state`, a state of a tree.
 ///
 /// # Errors
 ///
@@ -173,7 +173,7 @@ fn changes_of(alloc: Global, by_byte: &[u8; 256]) -> Result<Vec<u8>, AllocError>
     Ok(changes)
 }
 
-/// Returns the steps of the tree of `state` from this state, for each byte.
+/// Returns the steps for all bytes from `state`, a state of a tree.
 ///
 /// # Errors
 ///

@@ -1,5 +1,5 @@
-//! Finds runs of neighboring bytes with the same step in a state. Called by `rows`, which writes
-//! all entries of a run at once.
+//! `run_end` finds runs of neighboring bytes with the same step in a state. Called by `rows`, which
+//! writes all entries of a run at once.
 //!
 //! A run consists of consecutive bytes from a first byte up to but not including an end. A run need
 //! not be maximal.

@@ -1,5 +1,5 @@
-//! Constructs code values from their parts. Called only by the generator of codes, so `code` does
-//! not re-export this module.
+//! `make_code` constructs a code from its parts. Only the generator of codes calls `make_code`, so
+//! the module `code` does not re-export the function.
 
 ghost use Rattle.std.specs.Prelude.{◌≡◌, IfOk};
 ghost use Rattle.logos_code.specs.Views.{code_of, IsValid, IsWhole};

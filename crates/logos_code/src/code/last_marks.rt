@@ -1,9 +1,10 @@
-//! Finds last marks: for each state, the last mark that a match attempt has passed if it ends in
-//! the state. Called by `construction`. The fast path of an attempt reads the last marks.
+//! `last_marks_of` finds last marks: for each state, the last mark that a match attempt has passed
+//! when the attempt ends in the state. Called by `construction`. The fast path of an attempt reads
+//! the last marks.
 //!
 //! If all paths to a state have the same last mark, a lexer need not record the marks that it
-//! passes. The last marks are searched along the forks of all states, and then checked. Only the
-//! check establishes that the last marks are correct.
+//! passes. The last marks are first searched along the forks of all states, and then checked. Only
+//! the check establishes that the last marks are correct.
 
 ghost use Rattle.std.specs.Prelude.{◌≡◌, ◌<◌, IfOk, IfSome, IsTrue, length, map, option_map, if◌then◌else◌};
 ghost use Rattle.logos_code.specs.Views.{code_of, mark_of, branch_of, fork_of, jumps_of, entry_of, by_conditions, by_table, IsSound, NamesFork, AreLastMarks, last_mark_at, IsOwn, Follows, FollowsAt, FollowsBack, ForkAgrees, StateAgrees, BeginsUnmarked, Agree};
@@ -12,7 +13,7 @@ use super::{CodeParts, CodeState, Condition, Fork, Mark, target_of};
 use logos_hir::leaf::LeafId;
 use std::alloc::{AllocError, Global};
 
-/// The last mark that a match attempt has passed if it ends in a given state.
+/// The last mark that a match attempt has passed when the attempt ends in a given state.
 #[derive(Clone, Copy, PartialEq, Eq)]
 pub enum LastMark {
     /// No path to the state was found, so the last mark is unknown.
@@ -31,7 +32,8 @@ pub enum LastMark {
 struct Search {
     /// The last mark that has been found for each state.
     found: Vec<LastMark>,
-    /// The states whose last marks have changed since the search last updated their targets.
+    /// The states whose last marks have changed since the search last updated the targets of the
+    /// states.
     open: Vec<usize>,
 }
 
@@ -133,8 +135,8 @@ impl Search {
         }
     }
 
-    /// Records that an attempt can end in `state` with the last mark `mark`. Opens the state if its
-    /// last mark changes. Does nothing if the state does not exist.
+    /// Records that an attempt can end in `state` with the last mark `mark`. Adds the state to the
+    /// open states if its last mark changes. Does nothing if the state does not exist.
     fn find_more(&mut self, state: usize, mark: LastMark) -> Result<(), AllocError> {
         if state >= self.found.len() {
             return Ok(());

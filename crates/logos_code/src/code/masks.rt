@@ -1,5 +1,5 @@
-//! Computes the masks of tests. With a mask, a fast loop tests sixteen bytes at once. Called by
-//! `construction`. The fast loops of lexers read the masks.
+//! `masks_of` computes the masks of tests. With a mask, the fast loop of a lexer tests sixteen
+//! bytes at once. Called by `construction`.
 
 ghost use Rattle.std.specs.Prelude.{◌≡◌, ◌+◌, ◌*◌, ◌<◌, ◌≤◌, ◌^◌, ◌==◌, ℕ, if◌then◌else◌, IfOk};
 ghost use Rattle.logos_code.specs.Views.{bit_at, passes_test, code_of, IsMask, AreMasks, NamesTest};

@@ -1,4 +1,4 @@
-//! Computes rows: the step for each byte in each state, encoded as a number. Called by
+//! `rows_of` computes rows: the step for each byte in each state, encoded as a number. Called by
 //! `construction`. `logos_machine` and `logos_scan` read the rows.
 //!
 //! The rows of all states are stored consecutively in one table, with `WIDTH` entries each. The
@@ -50,30 +50,32 @@ const STATES: usize = 986_896;
 /// state that marks the match late.
 pub const LATE: u32 = 1 << 27;
 
-/// The first of the entries with a test as operand. The byte does not change the state, whose fast
-/// loop has this test. A smaller entry is the row offset of the state to which the byte leads.
+/// The smallest of the entries with a test as operand. The byte does not change the state, whose
+/// fast loop has this test. An entry below `STAYS` is the row offset of the state to which the byte
+/// leads.
 pub const STAYS: u32 = NAMED;
 
-/// The first of the entries with a leaf whose match ends before the byte and is skipped without a
-/// callback.
+/// The smallest of the entries with a leaf whose match ends before the byte and is skipped without
+/// a callback.
 pub const LEAVES: u32 = 2 * NAMED;
 
-/// The first of the entries with a leaf whose match ends before the byte and is a token without a
-/// callback.
+/// The smallest of the entries with a leaf whose match ends before the byte and is a token without
+/// a callback.
 pub const HALTS: u32 = 3 * NAMED;
 
-/// The first of the entries with a leaf whose match ends after the byte and is a token without a
+/// The smallest of the entries with a leaf whose match ends after the byte and is a token without a
 /// callback.
 pub const CLOSES: u32 = 4 * NAMED;
 
-/// The first of the entries with a leaf whose match ends after the byte and is skipped without a
+/// The smallest of the entries with a leaf whose match ends after the byte and is skipped without a
 /// callback.
 pub const SHUTS: u32 = 5 * NAMED;
 
-/// The first of the entries with a leaf whose match ends before the byte and may have a callback.
+/// The smallest of the entries with a leaf whose match ends before the byte and may have a
+/// callback.
 pub const CALLS_BACK: u32 = 6 * NAMED;
 
-/// The first of the entries with a leaf whose match ends after the byte and may have a callback.
+/// The smallest of the entries with a leaf whose match ends after the byte and may have a callback.
 pub const CALLS_BACK_AFTER: u32 = 7 * NAMED;
 
 /// The entry of a byte that leads nowhere from a state without an early mark.
@@ -132,7 +134,7 @@ pub(super) fn entry_of_step(step: Step) -> u32
     }
 }
 
-/// Returns the first of the entries with a leaf whose match ends before the byte and has the use
+/// Returns the smallest of the entries with a leaf whose match ends before the byte and has the use
 /// `used`.
 fn first_halting(used: MatchUse) -> u32
     ensures { result ≡ first_halting used }
@@ -144,7 +146,7 @@ fn first_halting(used: MatchUse) -> u32
     }
 }
 
-/// Returns the first of the entries with a leaf whose match ends after the byte and has the use
+/// Returns the smallest of the entries with a leaf whose match ends after the byte and has the use
 /// `used`.
 fn first_closing(used: MatchUse) -> u32
     ensures { result ≡ first_closing used }
@@ -209,8 +211,8 @@ fn entry_at(parts: &CodeParts, state: &CodeState, byte: u8) -> u32
     entry_of_step(parts.step(state, byte))
 }
 
-/// Returns the entries of the first byte of an attempt. `rows` contains the rows of all states, and
-/// `root` is the number of the state in which match attempts begin.
+/// Returns the entry of each byte as the first byte of an attempt. `rows` contains the rows of all
+/// states, and `root` is the number of the state in which match attempts begin.
 pub(super) fn first_row(rows: &[u32], root: usize) -> [u32; 256]
     requires { WIDTH * root + 256 ≤ length rows.now }
     ensures { IsFirstOf rows.now root result }
@@ -222,8 +224,9 @@ pub(super) fn first_row(rows: &[u32], root: usize) -> [u32; 256]
     first
 }
 
-/// Returns the entry of a first byte whose entry in the row of the root is `entry`. The result is
-/// `UNDESCRIBED` if `entry` is of the kind `STAYS`, `LEAVES` or `HALTS`, and `entry` otherwise.
+/// Returns the entry of a byte as the first byte of an attempt. `entry` is the entry of the byte in
+/// the row of the root. The result is `UNDESCRIBED` if `entry` is of the kind `STAYS`, `LEAVES` or
+/// `HALTS`, and `entry` otherwise.
 fn first_entry(entry: u32) -> u32
     ensures { IsFirstEntry entry result }
 {

@@ -1,5 +1,5 @@
-//! Computes signs: the marks of states in a form that a lexer reads with one load. Called by
-//! `construction`. The slow path of an attempt reads the signs.
+//! `signs_of` computes signs: the marks of states in a form that a lexer reads with one load.
+//! Called by `construction`. The slow path of an attempt reads the signs.
 
 ghost use Rattle.std.specs.Prelude.{◌≡◌, IfOk, map, option_map};
 ghost use Rattle.logos_code.specs.Views.{mark_of, code_of, mark_by, AreSigns};
@@ -8,8 +8,8 @@ use super::{CodeParts, Mark};
 use logos_hir::leaf::LeafId;
 use std::alloc::{AllocError, Global};
 
-/// The mark of a state, with a variant for each case. A lexer branches on the variant, so that it
-/// need not wait for the leaf to be loaded.
+/// The mark of a state, with a variant for each case. A lexer branches on the variant, and so need
+/// not wait until the leaf is loaded.
 #[derive(Clone, Copy)]
 pub enum Sign {
     /// The state has no mark.

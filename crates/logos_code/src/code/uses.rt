@@ -1,5 +1,5 @@
-//! Computes the uses of the leaves' matches. A lexer reads a use with one load at the end of a
-//! match. Called by `construction`.
+//! `uses_of` computes the use of the matches of each leaf. A lexer reads a use with one load at the
+//! end of a match. Called by `construction`.
 
 ghost use Rattle.std.specs.Prelude.{◌≡◌, IfOk, map};
 ghost use Rattle.logos_code.specs.Views.{use_of, use_by};
@@ -8,8 +8,8 @@ use super::{CodeLeaf, CodeParts};
 use logos_pattern::leaf::VariantKind;
 use std::alloc::{AllocError, Global};
 
-/// The use of a leaf's matches, in two bytes. A lexer reads these bytes instead of a `CodeLeaf`,
-/// which is far larger.
+/// The use of a leaf's matches, in two bytes. A lexer reads the two bytes instead of a `CodeLeaf`,
+/// which is larger.
 #[derive(Clone, Copy)]
 pub(crate) struct LeafUse {
     /// Whether the matches are skipped.

@@ -62,8 +62,8 @@ impl<'s> Parser<'s> {
     }
 
     /// Reads the definition in the arguments of a `token` or `regex` attribute. Returns `None` if
-    /// the attribute has no group, or if the group does not begin with a string or byte string.
-    /// Reports the tokens found instead, if there are any.
+    /// the attribute has no group. If the group does not begin with a string or byte string,
+    /// reports the tokens found instead, if there are any, and returns `None`.
     ///
     /// # Errors
     ///

@@ -24,8 +24,8 @@ impl<'s> Parser<'s> {
     ghost use Rattle.std.specs.Prelude.{OnOk, IfOk, string_bytes};
     ghost use Rattle.logos_definition.specs.Views.{grouped, named, tokens_of, ident_slice, literal_slice, IsReport, map_report, and_then, text_report, string_in, literal_view, value_of, piece_of, pieces_left, definition_report, skip_plain, skip_whole, skip_report, mode_set, utf8_report, extras_set, extras_report, crate_report, path_set, held_path, export_report, subpattern_set, subpattern_report, error_set, error_report, setting_report, option_report, ReadsError, ReadsType, ReadsPiece, ReadsPieces, error_view, parser_view};
 
-    /// Sets the UTF-8 mode to the boolean that `tokens` spell, and reports a second mode. If
-    /// `tokens` are not a boolean, reports them and leaves the mode unchanged.
+    /// Sets the UTF-8 mode to the boolean that `tokens` spell. If a mode was set before, reports
+    /// both modes. If `tokens` are not a boolean, reports them and leaves the mode unchanged.
     fn set_mode(&mut self, tokens: Tokens<'_, 's>) -> Result<(), Memory>
         ensures { OnOk result (IsReport (mode_set (tokens_of tokens.entry) (parser_view self.old))
             (parser_view self.new) self.old.errors self.new.errors) }
@@ -53,7 +53,7 @@ impl<'s> Parser<'s> {
         Ok(())
     }
 
-    /// Sets the type of extras to `tokens`, and reports a second type of extras.
+    /// Sets the type of extras to `tokens`. If a type of extras was set before, reports both types.
     fn set_extras(&mut self, tokens: Tokens<'_, 's>) -> Result<(), Memory>
         ensures { OnOk result (IsReport (extras_set (tokens_of tokens.entry) (parser_view self.old))
             (parser_view self.new) self.old.errors self.new.errors) }
@@ -94,8 +94,8 @@ impl<'s> Parser<'s> {
         Ok(())
     }
 
-    /// Sets the path of the exported state diagram to `path`, the value of `tokens`, and reports a
-    /// second path.
+    /// Sets the path of the exported state diagram to `path`. If a path was set before, reports
+    /// both paths. `tokens` are the tokens that spell `path`.
     fn set_path(&mut self, tokens: Tokens<'_, 's>, path: String) -> Result<(), Memory>
         ensures { OnOk result (IsReport
             (path_set (tokens_of tokens.entry) (string_bytes path) (parser_view self.old))
@@ -173,7 +173,8 @@ impl<'s> Parser<'s> {
         Ok(())
     }
 
-    /// Sets the error type to `error`, the value of `tokens`, and reports a second error type.
+    /// Sets the error type to `error`. If an error type was set before, reports both types.
+    /// `tokens` are the tokens that spell `error`.
     fn set_error(&mut self, tokens: Tokens<'_, 's>, error: ErrorType<'s>) -> Result<(), Memory>
         ensures { OnOk result (IsReport
             (error_set (tokens_of tokens.entry) (error_view error.entry) (parser_view self.old))
@@ -367,8 +368,8 @@ impl<'s> Parser<'s> {
         Ok(true)
     }
 
-    /// Adds arguments to the options in order, and reports their faults. Stops after an `error(..)`
-    /// that does not begin with a type.
+    /// Adds arguments to the options in source order, and reports their faults. Stops after an
+    /// `error(..)` that does not begin with a type.
     pub(super) fn add_pieces(&mut self, pieces: AttributeParser<'_, 's>) -> Result<(), Memory>
         ensures { OnOk result (ReadsPieces
             (parser_view self.old) (parser_view self.new) self.old.errors self.new.errors

@@ -59,7 +59,7 @@ impl<'s> Parser<'s> {
 
     /// Returns the generic arguments that follow the enum's name: `'s` if a lifetime is declared,
     /// and then the types assigned to the declared parameters, in the order of declaration. Returns
-    /// `None` if there are no arguments. Reports each parameter without a type, and leaves it out.
+    /// `None` if there are no arguments. Reports and leaves out each parameter without a type.
     ///
     /// # Errors
     ///
@@ -90,10 +90,11 @@ impl<'s> Parser<'s> {
 
     /// Returns the type `written` with each declared parameter replaced by the type assigned to it,
     /// and with each lifetime replaced by `'s`. A parameter is not replaced if the type assigned to
-    /// it contains the parameter itself. Each call searches for these parameters anew.
+    /// it contains the parameter itself. Each call searches anew for the parameters that are not
+    /// replaced.
     ///
-    /// If too many types are nested in the result, reports the nesting at `span` and returns the
-    /// type as written.
+    /// If the result has more than 128 levels of nested types, reports the nesting at `span` and
+    /// returns the type as written.
     ///
     /// # Errors
     ///

@@ -67,8 +67,13 @@ fn explore<M: Machine>(
     })
 }
 
-/// Returns the input that consists of the bytes that lead to the pending point of `reading`, the
-/// byte of `reading`, and the least bytes that complete the character with the rest `rest`.
+/// Returns an input that takes the step of `reading`.
+///
+/// The input consists of these bytes, in this order:
+///
+/// - the bytes that lead to the pending point of `reading`,
+/// - the byte of `reading`,
+/// - the least bytes that complete the character with the rest `rest`.
 ///
 /// # Errors
 ///
@@ -113,7 +118,7 @@ fn add_input<M: Machine>(
 }
 
 /// Adds an input to `cover` that takes the step from a pending point by a byte. Adds nothing if
-/// there is no such step or an earlier input takes it.
+/// there is no such step or an earlier input takes the step.
 ///
 /// # Errors
 ///

@@ -4,8 +4,8 @@
 ghost use Rattle.std.specs.Prelude.{◌<◌};
 ghost use Rattle.logos_evidence.specs.search.inside.Order.{IsByteAt};
 
-/// Returns the byte at the index `site` of the order: letters, digits, punctuation, and then the
-/// other bytes.
+/// Returns the byte at the index `site` of the order. The order begins with letters, followed by
+/// digits, punctuation, and all other bytes.
 pub(crate) fn byte_at(site: u8) -> u8
     ensures { IsByteAt site result }
 {

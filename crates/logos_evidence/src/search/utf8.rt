@@ -13,7 +13,7 @@ pub struct Rest {
     pub low: u8,
     /// The greatest byte that may come next, if `count` is not 0.
     pub high: u8,
-    /// The number of bytes that the character lacks. It is 0 between characters.
+    /// The number of bytes that the character lacks, or 0 between characters.
     pub count: usize,
 }
 
@@ -54,7 +54,8 @@ fn most_after(byte: u8) -> u8
     }
 }
 
-/// Returns the rest of the character that `byte` begins, or `None` if no character begins with it.
+/// Returns the rest of the character that `byte` begins, or `None` if no character begins with
+/// `byte`.
 fn begun(byte: u8) -> Option<Rest>
     ensures { result ≡ rests.begun byte }
 {

@@ -26,7 +26,7 @@ pub(crate) struct Visit {
     pub(crate) from: usize,
     /// The byte that leads from the predecessor to the pending point.
     pub(crate) byte: u8,
-    /// The number of bytes from the first pending point.
+    /// The number of bytes that lead from the first pending point to this one.
     pub(crate) depth: usize,
 }
 
@@ -37,7 +37,7 @@ pub(crate) struct Visits {
     pub(crate) ways: Vec<Visit>,
 }
 
-/// Returns the pending point at `point`, before the first byte.
+/// Returns the pending point at `point` before the first byte of an input.
 pub(crate) fn first_pending(point: Point) -> PendingPoint
     ensures { result ≡ points.pending_at point (more 0) }
 {

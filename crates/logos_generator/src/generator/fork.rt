@@ -87,8 +87,8 @@ fn table_of(edges: &[(ByteClass, State)], state: usize) -> [u32; 256]
     table
 }
 
-/// Writes the target of an edge to the entries of the edge's bytes that have no target yet. Does
-/// nothing if the edge leads back to `state`.
+/// Writes the target of an edge to each entry that belongs to a byte of the edge and has no target
+/// yet. Does nothing if the edge leads back to `state`.
 fn fill_edge(table: &mut [u32; 256], edge: &(ByteClass, State), state: usize)
     requires { state_number edge.now.1 < NOWHERE }
     ensures { (b : ℕ) → b < 256 → entry_of (slice_index table.new b) ≡ option_or
@@ -99,7 +99,7 @@ fn fill_edge(table: &mut [u32; 256], edge: &(ByteClass, State), state: usize)
     }
 }
 
-/// Writes `target` to the entries of the class's bytes that have no target yet.
+/// Writes `target` to each entry that belongs to a byte of the class and has no target yet.
 fn fill_class(table: &mut [u32; 256], class: &ByteClass, target: u32)
     requires { target < NOWHERE }
     ensures { (b : ℕ) → b < 256 → entry_of (slice_index table.new b)
@@ -110,7 +110,8 @@ fn fill_class(table: &mut [u32; 256], class: &ByteClass, target: u32)
     }
 }
 
-/// Writes `target` to the entries of the bytes from `first` to `last` that have no target yet.
+/// Writes `target` to each entry that belongs to a byte from `first` to `last` and has no target
+/// yet.
 fn fill_range(table: &mut [u32; 256], first: u8, last: u8, target: u32)
     requires { target < NOWHERE }
     ensures { (b : ℕ) → b < 256 → entry_of (slice_index table.new b)

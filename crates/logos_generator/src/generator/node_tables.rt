@@ -1,5 +1,5 @@
-//! The tests and jump tables that the nodes of a code share. `fork` adds to these tables, and
-//! `states` puts them into the code.
+//! Defines the tests and jump tables that the nodes of a code share. `fork` adds to these tables,
+//! and `states` puts them into the code.
 
 ghost use Rattle.std.specs.Prelude.{◌≡◌, []};
 

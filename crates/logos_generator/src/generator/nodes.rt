@@ -1,5 +1,5 @@
-//! Makes the nodes of a code one by one. Users of the library call these functions, but `generate`
-//! does not.
+//! Makes the nodes of a code one by one. These functions are part of the public interface, and
+//! `generate` does not call them.
 
 ghost use Rattle.std.specs.Prelude.{◌≡◌, ◌≤◌, ◌<◌, OnOk, OnErr, IfOk, length};
 ghost use Rattle.logos_generator.specs.Views.{ranges_of, graph_state_of, state_number, code_leaf_value, leaf_value, left_out, bit_tables_of, IsCodable, Continues, MakesFork, MakesLoop, MakesLoopOver};
@@ -163,7 +163,7 @@ impl<'s> Generator<'_, 's> {
     }
 }
 
-/// Returns the number of the state to which a fork leaves out all edges: the state itself if
+/// Returns the number of the state to which no edge of a fork leads: the number `state` if
 /// `ignore_self` is `true`, and otherwise a number that no state has.
 fn left_out(ignore_self: bool, state: usize) -> usize
     ensures { result ≡ left_out ignore_self state }

@@ -1,4 +1,4 @@
-//! Builds the graph of leaves. `logos_codegen` calls `Graph::new` once for each source.
+//! Builds graphs from leaves. `logos_codegen` calls `Graph::new` once for each source.
 
 ghost use Rattle.std.specs.Prelude.{◌≡◌, ◌^◌, ◌<◌, ◌≤◌, [], IfOk, IfErr, length, map};
 ghost use Rattle.logos_graph.specs.Imports.{dfa_of, AreFaults, AllStart, fault_of, IsGraphOf, AreFindings, Refuses, size_of, rules_of, IsTotal, ReadsOneByteLate, Memory, LimitSize};
@@ -27,8 +27,8 @@ fn automaton_of_none(alloc: Global) -> Result<Dfa, BuildError>
     }
 }
 
-/// Returns the automaton of `rules`, or the automaton of no rules if the tree of a rule matches the
-/// empty string or has a look-around assertion before its first byte.
+/// Returns the automaton of `rules`. Returns the automaton of no rules if the tree of a rule
+/// matches the empty string or has a look-around assertion before its first byte.
 fn automaton(alloc: Global, rules: &[RuleView<'_>]) -> Result<Dfa, BuildError>
     requires { size_of (views.rules_of rules.now) ≤ 2 ^ 20 }
     ensures late { IfOk result (λ dfa. AllStart (views.rules_of rules.now) →
@@ -76,7 +76,8 @@ fn leaf_findings(alloc: Global, leaves: &[Leaf<'_>]) -> Result<Findings, BuildEr
     rule_findings(alloc, &rules)
 }
 
-/// Returns the graph of `leaves`, which have no faults. `dfa` is the automaton of the leaves.
+/// Returns the graph of `leaves`, which must have no faults. `dfa` must be the automaton of the
+/// leaves.
 fn finished<'s>(
     alloc: Global,
     leaves: Vec<Leaf<'s>>,
@@ -105,10 +106,12 @@ impl<'s> Graph<'s> {
     ///
     /// # Errors
     ///
-    /// Returns `LimitSize` exactly if the size of all trees exceeds 1,048,576. Returns
-    /// `LimitStates` only if no pattern matches the empty string or has a look-around assertion
-    /// before its first byte, and the automaton would have more than 65,536 states. Returns
-    /// `Memory` if memory runs out.
+    /// Returns:
+    ///
+    /// - `LimitSize` if and only if the size of all trees exceeds 1,048,576.
+    /// - `LimitStates` only if no pattern matches the empty string or has a look-around assertion
+    ///   before its first byte, and the automaton would have more than 65,536 states.
+    /// - `Memory` if memory runs out.
     pub fn new(
         alloc: Global,
         leaves: Vec<Leaf<'s>>,

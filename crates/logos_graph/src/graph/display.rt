@@ -1,4 +1,4 @@
-//! Prints states and graphs. Called by `value` and by users of the library.
+//! Prints states and graphs. Used by `value`, and part of the public interface.
 
 ghost use Rattle.std.specs.Prelude.{◌≡◌, ◌++◌, Some, IfOk, codes, string_bytes};
 ghost use Rattle.logos_graph.specs.Imports.{decimal};
@@ -59,8 +59,8 @@ impl fmt::Display for StateType {
     }
 }
 
-/// The printed form of a state: a line with its marks, a line for each of its edges, and a line
-/// with the closing brace.
+/// The printed form of a state: a line with the marks, a line for each edge, and a line with the
+/// closing brace.
 #[derive(Clone, Copy)]
 struct StateLines<'g> {
     state: &'g StateData,

@@ -1,5 +1,4 @@
-//! Finds and checks bytes that distinguish two states of a graph. Called by users of the library on
-//! a finished graph.
+//! Finds and checks bytes that distinguish two states of a graph. Part of the public interface.
 
 ghost use Rattle.std.specs.Prelude.{◌≡◌, ◌≢◌, ◌<◌, ◌↔◌, [], IsTrue, IfOk, length};
 ghost use Rattle.logos_graph.specs.Imports.{Distinguishes, IsEvidence};
@@ -10,7 +9,7 @@ use logos_token::error::Memory;
 use std::alloc::Global;
 
 /// Bytes that distinguish two states. The bytes lead from the two states to states of different
-/// types, or lead to a state from exactly one of the two states.
+/// types, or they lead to a state from exactly one of the two states.
 #[derive(Debug, Drop)]
 pub struct Telling {
     pub bytes: Vec<u8>,
@@ -20,8 +19,8 @@ pub struct Telling {
 
 impl Graph<'_> {
     /// Returns bytes that distinguish the states `s` and `t` of this graph, which must be
-    /// different. The result also states whether the end of the input follows the bytes. There are
-    /// fewer bytes than states.
+    /// different. The result also contains whether the end of the input follows the bytes. There
+    /// are fewer bytes than states.
     ///
     /// # Errors
     ///

@@ -105,7 +105,7 @@ fn push_mark(text: &mut String, mark: &str, leaf: LeafId) -> Result<(), AllocErr
 }
 
 /// Appends the label of the node of the state `s`: the number of the state, and its early mark. If
-/// there is no early mark, appends the late mark of the state, if any.
+/// there is no early mark, the label contains the late mark of the state, if any.
 fn push_state_label(text: &mut String, s: usize, state_type: StateType) -> Result<(), AllocError>
     ensures { OnOk result (string_bytes text.new
         ≡ string_bytes text.old ++ state_label s (state_type_of state_type)) }

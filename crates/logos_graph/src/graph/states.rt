@@ -13,7 +13,7 @@ use logos_reduce::table::{StateMarks, Table};
 use std::alloc::{AllocError, Global};
 use std::ops::RangeInclusive;
 
-/// An edge: the bytes that lead to a state, and the state.
+/// An edge: a class of bytes, and the state to which these bytes lead.
 type Edge = (ByteClass, State);
 
 /// Returns the index of the first edge whose target is `target` or greater, or the number of edges
@@ -66,8 +66,8 @@ fn new_edge(alloc: Global, range: RangeInclusive<u8>, target: usize) -> Result<E
     Ok((ByteClass { ranges }, State(target)))
 }
 
-/// Appends a range of bytes to the edge to `target`. If there is no edge to `target`, inserts one
-/// in the order of the targets.
+/// Appends a range of bytes to the edge to `target`. If there is no edge to `target`, inserts a new
+/// edge, so that the edges remain in ascending order of their targets.
 fn add_range(
     alloc: Global,
     edges: &mut Vec<Edge>,
@@ -144,7 +144,7 @@ fn leaf(number: Option<usize>) -> Option<LeafId>
     Some(LeafId(number?))
 }
 
-/// Returns the type of a state with the mark `mark`.
+/// Returns the type of a state with the marks `mark`.
 fn type_of_mark(mark: StateMarks) -> StateType
     ensures { state_type_of result ≡ type_of mark }
 {
@@ -172,7 +172,8 @@ fn numbered(alloc: Global, numbers: &[usize]) -> Result<Vec<State>, AllocError>
     Ok(states)
 }
 
-/// Returns the state `s` of the table. `before` has the numbers of the states that lead to `s`.
+/// Returns the state `s` of the table. `before` contains the numbers of the states that lead to
+/// `s`.
 fn state_of(
     alloc: Global,
     table: &Table,

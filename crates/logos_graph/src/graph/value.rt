@@ -1,5 +1,5 @@
-//! The graph of a lexer, and its methods. Made by `construction`, and read by the generator of
-//! codes and by users of the library.
+//! The graph of a lexer, and its methods. `construction` makes graphs, and the generator of codes
+//! reads them. Part of the public interface.
 
 ghost use Rattle.std.specs.Prelude.{◌≡◌, ◌≢◌, ℕ, ◌-◌, ◌<◌, ◌↔◌, [], IsTrue, IfOk, Some, length, map, slice_get, string_bytes};
 ghost use Rattle.logos_graph.specs.Views.{range_with_len, dfa_of, fault_of, IsFit, IsFinished, mermaid_of, Shows, YieldsEvidence, YieldsFirstBy, item_count, AreBackward, graph_state_of, state_number, states_left};
@@ -56,7 +56,7 @@ impl<'s> Model for Graph<'s> {
 }
 
 impl<'s> Graph<'s> {
-    /// Returns the graph of `leaves`, which have the faults `errors`. The graph has no states.
+    /// Returns the graph of `leaves`, whose faults are `errors`. The graph has no states.
     pub(crate) fn refused(
         alloc: Global,
         leaves: Vec<Leaf<'s>>,
@@ -83,8 +83,8 @@ impl<'s> Graph<'s> {
         }
     }
 
-    /// Returns the graph of `leaves`, which have no faults. The table of `reduced` represents the
-    /// graph.
+    /// Returns the graph of `leaves` that the table of `reduced` represents. The graph has no
+    /// faults.
     pub(crate) fn finished(
         alloc: Global,
         leaves: Vec<Leaf<'s>>,

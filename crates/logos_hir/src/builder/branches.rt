@@ -1,4 +1,5 @@
-//! Flattens alternations and turns them into classes. Called by the simplifier.
+//! Flattens alternations, and turns alternations of single characters or single bytes into classes.
+//! Called by the simplifier.
 
 ghost use Rattle.std.specs.Prelude.{◌≡◌, ◌≤◌, ◌++◌, ◌∷◌, [], map, length, take, drop, Option, option_map, is_some, ◌&&◌, true, false, IfOk, OnOk};
 ghost use Rattle.logos_hir.specs.Views.{chars, pairs, tree_of, class_tree, sole_char, char_ranges_of, byte_ranges_of, all_ranges, branches_of, bytes_or, chars_or, choice_of, alternation_of, IsSimplest, IsAdded, IsFlatAlone, fits_of};
@@ -116,8 +117,7 @@ fn push_branches(branches: &mut Vec<Hir>, mut inner: Vec<Hir>) -> Result<(), All
     Ok(branches.append(&mut inner)?)
 }
 
-/// Appends the branches of the tree `branch` to `branches`: the branches of an alternation, and
-/// otherwise the tree itself.
+/// Appends the tree `branch` to `branches`. Appends the branches of an alternation one by one.
 fn push_branch(branches: &mut Vec<Hir>, branch: Hir) -> Result<(), AllocError>
     ensures { OnOk result (map tree_of branches.new.items ≡
         map tree_of branches.old.items ++ branches_of (tree_of branch)) }
@@ -154,9 +154,9 @@ fn chars_or(alloc: Global, branches: Vec<Hir>) -> Result<Hir, AllocError>
     }
 }
 
-/// Returns an alternation of branches that are not alternations themselves. Returns a single branch
-/// unchanged, a class if all branches fit one class, and the class without characters if `branches`
-/// is empty.
+/// Returns the simplest form of an alternation of `branches`. No branch may itself be an
+/// alternation. Returns a single branch unchanged, a class if all branches fit one class, and the
+/// empty class of characters if `branches` is empty.
 pub(crate) fn choice(mut branches: Vec<Hir>) -> Result<Hir, AllocError>
     ensures { IfOk result (λ hir. tree_of hir ≡ choice_of (map tree_of branches.items)) }
 {
@@ -187,7 +187,8 @@ pub fn alternation(all: Vec<Hir>) -> Result<Hir, AllocError>
     choice(branches)
 }
 
-/// The classes that a list of branches fits: the kinds of class that can replace the branches.
+/// The kinds of class that a list of branches fits, that is, the kinds of class that can replace
+/// the branches.
 #[derive(Clone, Copy)]
 pub(crate) struct Fits {
     /// Whether each branch is a class of characters, or a literal of one character.
@@ -197,7 +198,7 @@ pub(crate) struct Fits {
 }
 
 impl Fits {
-    /// Returns the classes that an empty list of branches fits: every class.
+    /// Returns the classes that an empty list of branches fits: both kinds of class.
     pub(crate) fn all() -> Fits
         ensures { result ≡ fits_of [] }
     {
@@ -284,9 +285,9 @@ pub(crate) fn push_fitting(branches: &mut Vec<Hir>, branch: Hir) -> Result<Fits,
     Ok(fits)
 }
 
-/// Replaces the branches from the index `from` on with one class if there is not exactly one such
-/// branch and `fits` contains a class. `fits` are the classes that these branches fit. Returns the
-/// classes that the branches from `from` on fit afterwards.
+/// Replaces the branches from the index `from` on with one class, unless there is exactly one such
+/// branch or `fits` contains no class. `fits` must contain the classes that these branches fit.
+/// Returns the classes that the branches from `from` on fit afterwards.
 pub(crate) fn join_class(
     alloc: Global,
     branches: &mut Vec<Hir>,

@@ -1,5 +1,5 @@
-//! Combines the operands of a bracket, each with the operator before it. The reader of brackets
-//! adds each operand to an `OperandRuns`.
+//! Combines the operands of a bracket according to the operators between the operands. The reader
+//! of brackets adds each operand to an `OperandRuns`.
 
 ghost use Rattle.std.specs.Prelude.{◌≡◌, false, IfOk, OnOk};
 ghost use Rattle.logos_hir.specs.Views.{Set, set_of, combination, selection, effects_on, with_operand, Makes, made_by};
@@ -33,8 +33,9 @@ pub fn combination(op: SetOperator, a: &RangeSet, b: &RangeSet) -> Result<RangeS
     }
 }
 
-/// The effect of operands on a set. The result contains the members of the set that are in
-/// `inside`, and the characters outside the set that are in `outside`.
+/// The effect of operands on a set. The effect turns a set into another set, which contains the
+/// members of the first set that are in `inside`, and the characters outside the first set that are
+/// in `outside`.
 #[derive(Drop)]
 pub struct Effect {
     outside: RangeSet,
@@ -138,8 +139,9 @@ fn push_effect(effects: &mut Vec<Effect>, count: usize, effect: Effect) -> Resul
     }
 }
 
-/// The operands of a bracket so far. Operands are combined on arrival, so that each range is
-/// processed a logarithmic number of times, and only a logarithmic number of effects is stored.
+/// The operands of a bracket that have been added. Operands are combined on arrival, so that the
+/// number of stored effects, and the number of times that each range is processed, are logarithmic
+/// in the number of operands.
 #[derive(Drop)]
 pub struct OperandRuns {
     /// One effect for each binary digit 1 of the number of operands. The value of the digit is the
@@ -163,7 +165,8 @@ impl OperandRuns {
     ///
     /// # Errors
     ///
-    /// Returns `AllocError` if memory runs out. Some operands may then have been lost.
+    /// Returns `AllocError` if memory runs out. In this case, operands that were added earlier may
+    /// be lost.
     pub fn push(
         &mut self,
         alloc: Global,
@@ -179,7 +182,7 @@ impl OperandRuns {
         Ok(())
     }
 
-    /// Returns the set that results from the operands, combined from the left.
+    /// Returns the set that results from applying the operators to the operands from left to right.
     ///
     /// # Errors
     ///

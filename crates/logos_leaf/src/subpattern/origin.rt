@@ -40,7 +40,8 @@ struct Extent {
     put_in: Option<Span>,
 }
 
-/// A search for a byte of a pattern's text that has passed some parts of the pattern's own text.
+/// The state of a search for a byte of a pattern's text. The search passes the parts of the
+/// pattern's own text one by one.
 #[derive(Clone, Copy)]
 struct OriginSearch {
     /// The number of bytes between the end of the passed parts and the byte, after the substitution
@@ -125,8 +126,9 @@ fn used_extent(
 }
 
 /// Returns the origin of the byte at the offset `at` of a text with all subpatterns substituted.
-/// `characters` are the characters of the text before the substitution. If `at` is past the end of
-/// the text, the `own` offset of the origin is the length of the text before the substitution.
+/// `characters` contains the characters of the text before the substitution. If `at` is past the
+/// end of the text, the `own` offset of the origin is the length of the text before the
+/// substitution.
 fn origin_in(
     alloc: Global,
     subpatterns: &Subpatterns<'_>,
@@ -153,8 +155,8 @@ fn origin_in(
     })
 }
 
-/// Returns the origin of the byte at the offset `at` of the text that `literal` spells. All
-/// subpatterns are substituted in this text.
+/// Returns the origin of the byte at the offset `at` of the text that `literal` spells, after the
+/// substitution of all subpatterns.
 fn put_in_origin(
     alloc: Global,
     literal: &Literal<'_>,
@@ -166,8 +168,8 @@ fn put_in_origin(
     origin_in(alloc, subpatterns, &characters, at)
 }
 
-/// Returns the origin of the byte at the offset `at` of the text that `literal` spells. The text is
-/// in a group that sets the pattern's flags, and all subpatterns are substituted in it.
+/// Returns the origin of the byte at the offset `at` of the text that `literal` spells, in a group
+/// that sets the pattern's flags, after the substitution of all subpatterns.
 fn grouped_origin(
     alloc: Global,
     literal: &Literal<'_>,

@@ -10,7 +10,7 @@ use logos_token::error::{Errors, FaultCode, Memory};
 use logos_token::token::{Ident, Span};
 use std::alloc::{AllocError, Global};
 
-/// A part of a pattern's text.
+/// A part of a pattern's text: a character or a use of a subpattern.
 #[derive(Clone, Copy)]
 pub(crate) enum TextPart<'a> {
     /// A character that does not belong to a use `(?&name)` of a subpattern.
@@ -76,8 +76,8 @@ fn after_closing(text: &[char]) -> Option<&[char]>
     if *first == ')' { Some(rest) } else { None }
 }
 
-/// Returns the name in the `(?&name)` at the front of a text, and the text after the `)`. Returns
-/// `None` if the text does not begin with a use of this form.
+/// Returns the name in the `(?&name)` at the beginning of a text, and the text after the `)`.
+/// Returns `None` if the text does not begin with a use of this form.
 fn reference_at(text: &[char]) -> Option<(&[char], &[char])>
     ensures { MatchOption result
         (reference text.now ≡ None)

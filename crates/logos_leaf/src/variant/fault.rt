@@ -1,5 +1,5 @@
-//! Reports the faults of variants and of their attributes. Each call reports at most one fault.
-//! `variant` calls these functions.
+//! Functions that report the faults of variants and of their attributes. Each call reports at most
+//! one fault. Called by `variant`.
 
 ghost use Rattle.std.specs.Prelude.{◌≡◌, ◌++◌, IfOk, OnOk, string_bytes};
 ghost use Rattle.logos_leaf.specs.Imports.{AddsFault, fields_text, variant_fields, count_faults, named_fields, error_variant, token_form, regex_form};
@@ -8,7 +8,7 @@ use logos_token::error::{Errors, FaultCode, Memory};
 use logos_token::token::Span;
 use std::alloc::{AllocError, Global};
 
-/// Returns the message for a variant with `count` fields, where `count` is not 1.
+/// Returns the message for a variant that has `count` fields instead of one.
 fn fields_text(alloc: Global, count: usize) -> Result<String, AllocError>
     ensures { IfOk result (λ text. string_bytes text ≡ fields_text count) }
 {
@@ -18,8 +18,8 @@ fn fields_text(alloc: Global, count: usize) -> Result<String, AllocError>
     Ok(text)
 }
 
-/// Reports that the variant with its fields in the parentheses at `span` has `count` fields instead
-/// of one.
+/// Reports that a variant has `count` fields instead of one. The fields are in the parentheses at
+/// `span`.
 pub(super) fn report_variant_fields(
     count: usize,
     span: Span,

@@ -1,5 +1,6 @@
-//! Checks the contents of literals and reads the pieces of strings. Called by `lexeme_at` after it
-//! has found the end of a literal, and by `logos_token` to read the values of literals.
+//! Functions that check the contents of literals and read the pieces of strings. Called by
+//! `lexeme_at` after the end of a literal is found, and by `logos_token` to read the values of
+//! literals.
 
 ghost use Rattle.std.specs.Prelude.{◌≡◌, ℕ, ◌+◌, ◌^◌, ◌<◌, ◌≤◌, ◌↔◌, ◌==◌, ◌||◌, Bool, true, List, IsTrue, IsFalse, length, slice_index, slice_range, MatchOption};
 ghost use Rattle.logos_lexeme.specs.Views.{digit_value, IsFirst, Steps, Ends, is_simple, simple_value, is_hex, hex_value, greatest_of, digits_between, is_blank, BreaksLine, IsEscape, IsHexEscape, IsUnicodeEscape, IsAllowed, Represents, IsPiece, IsCharacterPiece, IsSound, bytes_of, ReadsByte, IsPlain};
@@ -85,7 +86,7 @@ fn greatest_of(content: Content) -> u32
 }
 
 /// Returns the byte that `\xNN` at the byte offset `at` denotes. Returns `None` if a digit is
-/// missing or the byte is too great.
+/// missing or the byte is greater than `greatest_of(content)`.
 fn hex_escape(source: &str, content: Content, at: usize) -> Option<u8>
     requires within { at ≤ length source.now }
     requires backslash { slice_index source.now at ≡ 92 }

@@ -1,5 +1,5 @@
-//! Reads bytes and characters at byte offsets of a source text, and classifies characters. Called
-//! by the modules of this crate and by `logos_token`.
+//! Functions that read bytes and characters at byte offsets of a source text, and functions that
+//! classify characters. Called by the modules of this crate and by `logos_token`.
 
 ghost use Rattle.std.specs.Prelude.{◌≡◌, ◌<◌, ◌≤◌, length, slice_index};
 ghost use Rattle.logos_lexeme.specs.Imports.{IsCharBoundary, character, past, is_space, is_start, is_continuing, is_mark};

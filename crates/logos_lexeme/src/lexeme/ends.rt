@@ -1,5 +1,5 @@
-//! Finds the end of the lexeme or gap that opens at a byte offset. Called by `lexeme_at` after it
-//! has classified the opening.
+//! `end_of` finds the end of the lexeme or gap that begins at a byte offset. Called by `lexeme_at`
+//! after the opening of the lexeme or gap is classified.
 
 ghost use Rattle.std.specs.Prelude.{◌≡◌, ◌≢◌, ℕ, ◌+◌, ◌-◌, ◌<◌, ◌≤◌, ◌↔◌, length, slice_index, MatchOption, IsTrue};
 ghost use Rattle.logos_lexeme.specs.Views.{IsCharBoundary, past, is_space, is_continuing, Run, IsFirst, Passes, opening_at, prefix_of, IsLineEnd, Closes, IsName, IsSuffix, has_base, Continues, ReachesQuote, IsRawEnd, IsQuoted, IsRaw, Ends, IsOnward};
@@ -72,8 +72,8 @@ fn number_step(source: &str, based: bool, at: usize) -> Option<usize>
     None
 }
 
-/// Returns the byte offset after a number. `from` is the byte offset after its first character.
-/// `based` is `true` if the number has a base prefix.
+/// Returns the byte offset after a number. `from` is the byte offset after the first character of
+/// the number. `based` is `true` if the number has a base prefix.
 fn number_end(source: &str, based: bool, from: usize) -> usize
     requires boundary { IsCharBoundary source.now from }
     requires begun { 0 < from }
@@ -116,9 +116,9 @@ fn line_end(source: &str, from: usize) -> usize
     end
 }
 
-/// Takes one step at `at` inside `depth` nested block comments. Returns the number of comments that
-/// are open after the step, and the byte offset after the step. Returns `None` at the end of the
-/// source.
+/// Reads `/*`, `*/` or one other byte at `at`, inside `depth` nested block comments. Returns the
+/// number of comments that have not ended, and the byte offset after the bytes read. Returns `None`
+/// at the end of the source.
 fn block_step(source: &str, depth: usize, at: usize) -> Option<(usize, usize)>
     requires open { 0 < depth }
     requires shallow { depth ≤ at + 1 }

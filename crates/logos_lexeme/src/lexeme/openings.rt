@@ -1,5 +1,5 @@
-//! Classifies the lexeme or gap that opens at a byte offset of a source text. Called by `lexeme_at`
-//! before it searches for the end.
+//! `opening_at` classifies the lexeme or gap that begins at a byte offset of a source text. Called
+//! by `lexeme_at` before the end of the lexeme or gap is searched for.
 
 ghost use Rattle.std.specs.Prelude.{◌≡◌, ◌+◌, ◌<◌, ◌≤◌, min, length, slice_index};
 ghost use Rattle.logos_lexeme.specs.Views.{is_ascii_digit, IsCharBoundary, hashes, raw_opening, string_opening, character_opening, bytes_opening, literal_opening, line_kind, block_kind, comment_opening, name_at, spacing, delimiter_kind, single_kind, other_opening, follows_apostrophe, is_lifetime_name, literal_at, opening_at, kind_of};
@@ -10,11 +10,11 @@ use crate::lexeme::{Delimiter, LexemeKind, Spacing};
 /// The kind of the contents of a literal.
 #[derive(Clone, Copy)]
 pub enum Content {
-    /// Characters, in a literal without `b` or `c`.
+    /// Characters, in a literal without the prefix `b` or `c`.
     Text,
-    /// Bytes, in a literal with `b`.
+    /// Bytes, in a literal with the prefix `b`.
     Bytes,
-    /// Characters and bytes, in a literal with `c`.
+    /// Characters and bytes, in a literal with the prefix `c`.
     C,
 }
 
@@ -31,7 +31,7 @@ pub enum Opening {
     Word,
     /// A number.
     Number,
-    /// A string that is not raw, with the kind of its contents. It can contain escapes.
+    /// A string that is not raw, with the kind of its contents. The string can contain escapes.
     Quotes(Content),
     /// A raw string, with the kind of its contents and the number of `#` before its quote.
     Raw(Content, u8),
@@ -74,8 +74,9 @@ fn raw_opening(content: Content, source: &str, at: usize) -> Option<Opening>
     Some(Opening::Raw(content, count as u8))
 }
 
-/// Returns the opening of a string. `at` is the byte offset of the string, or the byte offset after
-/// its `b` or `c`. Returns `None` if there is no such string.
+/// Returns the opening of a string. `at` is the byte offset after the prefix `b` or `c` of the
+/// string, or the byte offset of a string without such a prefix. Returns `None` if there is no such
+/// string.
 #[tactic(auto, unfolding(crate::specs::LexemeOpenings::string_opening))]
 fn string_opening(content: Content, source: &str, at: usize) -> Option<Opening>
     requires { at ≤ length source.now + 1 }
@@ -121,7 +122,7 @@ fn bytes_opening(source: &str, at: usize) -> Option<Opening>
     string_opening(Content::Bytes, source, at)
 }
 
-/// Returns the opening of the literal at a byte offset, or `None` if no literal opens at the
+/// Returns the opening of the literal at a byte offset, or `None` if no literal begins at the
 /// offset.
 #[tactic(auto, unfolding(crate::specs::LexemeOpenings::literal_opening))]
 fn literal_opening(source: &str, at: usize) -> Option<Opening>
@@ -177,7 +178,7 @@ fn block_kind(source: &str, at: usize) -> LexemeKind
     }
 }
 
-/// Returns the opening of the comment at a byte offset, or `None` if no comment opens at the
+/// Returns the opening of the comment at a byte offset, or `None` if no comment begins at the
 /// offset.
 #[tactic(auto, unfolding(crate::specs::LexemeOpenings::comment_opening))]
 fn comment_opening(source: &str, at: usize) -> Option<Opening>
@@ -280,7 +281,7 @@ fn single_kind(source: &str, at: usize) -> Option<LexemeKind>
     delimiter_kind(c)
 }
 
-/// Returns the opening at a byte offset at which neither a literal nor a comment opens. Returns
+/// Returns the opening at a byte offset at which neither a literal nor a comment begins. Returns
 /// `Nothing` if no lexeme or gap begins at the offset.
 #[tactic(auto, unfolding(crate::specs::LexemeOpenings::other_opening))]
 fn other_opening(source: &str, at: usize) -> Opening
@@ -324,8 +325,8 @@ fn is_lifetime_name(source: &str, at: usize) -> bool
     is_start(char_at(source, at))
 }
 
-/// Returns the opening of the literal at a byte offset, or `None` if no literal opens at the
-/// offset. No literal opens where the name of a lifetime begins.
+/// Returns the opening of the literal at a byte offset, or `None` if no literal begins at the
+/// offset. No literal begins at an offset at which the name of a lifetime begins.
 #[tactic(auto, unfolding(crate::specs::LexemeOpenings::literal_at))]
 fn literal_at(source: &str, at: usize) -> Option<Opening>
     requires inside { at < length source.now }

@@ -1,6 +1,6 @@
-//! The slow path of an attempt, which enters state after state and records the last mark passed.
-//! `walk` takes this path if entries do not determine the result. `part` uses functions of this
-//! module for inputs whose rest is not known.
+//! The slow path of a match attempt, which enters state after state and records the last mark
+//! passed. `walk` takes this path if table entries do not determine the result. `part` uses
+//! functions of this module for a part of an input without the bytes after the part.
 
 ghost use Rattle.std.specs.Prelude.{◌≡◌, ◌+◌, ◌-◌, ◌<◌, ◌≤◌, ℕ, max, length, slice_get, drop, option_map, IfSome, IsTrue, IsCharBoundary, ◌^◌, ◌↔◌};
 ghost use Rattle.logos_machine.specs.Views.{state_at, mark_by, Does, Attempts, EndsError, target, looped, marked, IsStatus, StaysWithin, context_of, status_of, turn_of, found_of};
@@ -38,11 +38,11 @@ pub(super) enum Turn {
     Returns,
 }
 
-/// The result of an attempt.
+/// The result of an attempt: a match or an error.
 #[derive(Clone, Copy)]
 pub(super) enum Found {
     Ended,
-    /// A match of this leaf, up to this offset.
+    /// A match of this leaf that ends at this offset.
     Matched(LeafId, usize),
     /// No match. The error ends at this offset.
     Failed(usize),
@@ -82,7 +82,7 @@ fn run_state(code: &Code, input: &[u8], start: usize, at: Status) -> Turn
 }
 
 /// Returns the end of the fast loop of a state that is entered at `offset`, with the target of the
-/// byte at this end.
+/// byte at the loop's end.
 #[inline]
 pub(super) fn stop_of(code: &Code, input: &[u8], state: usize, offset: usize) -> LoopEnd
     requires { state < length code.now.states }
@@ -127,8 +127,8 @@ fn loop_end(code: &Code, input: &[u8], state: usize, offset: usize) -> usize
     }
 }
 
-/// Returns the last mark passed after a state with the sign `sign`. `offset` is the end of the
-/// state's fast loop, and `context` is the last mark passed before the state.
+/// Returns the last mark passed at the end of the step in a state with the sign `sign`. `offset` is
+/// the end of the state's fast loop, and `context` is the last mark passed before the state.
 #[inline]
 pub(super) fn marked(
     sign: Sign,
@@ -145,9 +145,9 @@ pub(super) fn marked(
     }
 }
 
-/// Returns the end of the error of an attempt from `start` that ends at `offset`. This is the first
-/// offset, from `offset` on, that is greater than `start` and, in UTF-8 mode, on a character
-/// boundary.
+/// Returns the end of the error of an attempt from `start` that ends at `offset`. The error ends at
+/// the first offset, from `offset` on, that is greater than `start` and, in UTF-8 mode, on a
+/// character boundary.
 #[cold]
 #[inline(never)]
 pub(super) fn error_end(code: &Code, input: &[u8], start: usize, offset: usize) -> usize
@@ -185,8 +185,8 @@ fn is_continuation(byte: u8) -> bool
     matches!(byte, 0x80..=0xBF)
 }
 
-/// Makes an attempt at `start` that records the marks passed. Returns the result and the number of
-/// states that the attempt entered.
+/// Makes a match attempt from `start`, and records the marks passed during the attempt. Returns the
+/// result and the number of states that the attempt entered.
 #[cold]
 #[inline(never)]
 pub(super) fn attempt_with_marks(code: &Code, input: &[u8], start: usize) -> (Found, usize)

@@ -1,5 +1,5 @@
-//! Finds the end of a fast loop: the first byte that does not pass the test of the loop. Both paths
-//! of an attempt call `stop` in a state that has a fast loop.
+//! Finds the end of a fast loop: the first byte that does not pass the test of the loop. Both the
+//! fast path and the slow path of an attempt call `stop` in a state that has a fast loop.
 
 ghost use Rattle.std.specs.Prelude.{◌≡◌, ◌+◌, ◌/◌, ◌%◌, ◌<◌, ◌≤◌, length, map, not, slice_index};
 ghost use Rattle.logos_machine.specs.Views.{mask_l, passes_test, NamesTest, StopsAt};
@@ -39,12 +39,14 @@ fn stopping(code: &Code, test: usize, block: &[u8; 16]) -> u64
     (near | far).simd_eq(u8x16::splat(0)).to_bitmask()
 }
 
-/// The entries for the upper halves of bytes. For a byte below 128, the entry has only the bit set
-/// whose index is the upper half. For any other byte, the entry is 0.
+/// For each upper half of a byte, the bit that represents the half among bytes below 128. For an
+/// upper half below 8, the entry has only the bit set whose index is the upper half. For any other
+/// upper half, the entry is 0.
 const NEAR: [u8; 16] = [1, 2, 4, 8, 16, 32, 64, 128, 0, 0, 0, 0, 0, 0, 0, 0];
 
-/// The entries for the upper halves of bytes. For a byte from 128 on, the entry has only the bit
-/// set whose index is the upper half minus 8. For any other byte, the entry is 0.
+/// For each upper half of a byte, the bit that represents the half among bytes from 128 on. For an
+/// upper half from 8 on, the entry has only the bit set whose index is the upper half minus 8. For
+/// any other upper half, the entry is 0.
 const FAR: [u8; 16] = [0, 0, 0, 0, 0, 0, 0, 0, 1, 2, 4, 8, 16, 32, 64, 128];
 
 /// Returns, for each byte, the entry of the mask at the index `at` plus the lower half of the byte.
@@ -64,8 +66,8 @@ fn by_high(bits: [u8; 16], bytes: u8x16) -> u8x16
     u8x16::from_array(bits).swizzle_dyn_within::<16>(bytes >> u8x16::splat(4))
 }
 
-/// Returns the result of `stop` for the bytes from `from` on. Called for long runs of bytes that
-/// pass the test.
+/// Returns the result of `stop` for the bytes from `from` on. Called if the sixteen bytes before
+/// `from` pass the test.
 #[cold]
 #[inline(never)]
 fn stop_far(code: &Code, test: usize, input: &[u8], from: usize) -> usize

@@ -1,5 +1,5 @@
 //! Lexes a part of an input without knowledge of the bytes after the part. `logos_stream` calls
-//! `next_within` for each item, and `logos_relex` calls it for the items of a chunk.
+//! `next_within` for each item, and `logos_relex` calls `next_within` for each item of a chunk.
 
 ghost use Rattle.std.specs.Prelude.{◌≡◌, ◌<◌, ◌≤◌, ◌+◌, drop, length, false, List, ℕ, MatchBool};
 ghost use Rattle.logos_machine.specs.Views.{IsStatus, answers_of, fork_of, looped, status_of, state_at, DoesWithin, HasBranches, IsClosed, IsOpen, IsSettled, KeepsGiven, Moves, NoBranches, TakesMatches};
@@ -10,10 +10,10 @@ use logos_code::code::{Code, Fork};
 use logos_hir::leaf::LeafId;
 use logos_token::token::Span;
 
-/// The result of `next_within` on a part of an input.
+/// The result of `next_within`: an item, a request for more bytes, or the end of the input.
 #[derive(Clone, Copy, Debug)]
 pub enum Within<'i> {
-    /// The next item, regardless of the bytes after the part.
+    /// The next item. The item does not depend on the bytes after the part.
     Item(Item<'i>),
     /// A request for more bytes. The next match attempt has reached the end of the part, in a state
     /// from which more bytes or the end of the input can continue the attempt.
@@ -23,15 +23,17 @@ pub enum Within<'i> {
 }
 
 impl<'c, 's, 'i, C: Fn(LeafId, &[u8]) -> Action> Lexer<'c, 's, 'i, C> {
-    /// Returns the next item of an input of which the lexer has only a part. If `last` is `true`,
-    /// the part is the last one, and the function returns the result of `next`, with `End` for
-    /// `None`. Otherwise more bytes may follow, and the function returns an item only if no byte
-    /// after the part can change the item, and `More` otherwise.
+    /// Returns the next item of an input of which the lexer has only a part.
     ///
-    /// After `More`, the lexer has passed the matches without an item, and its span is empty. The
-    /// next match attempt has reached the end of the part, and more bytes or the end of the input
-    /// can continue the attempt. To continue, append more bytes to the bytes of `remainder`, and
-    /// create a lexer for all these bytes.
+    /// If `last` is `true`, the part is the last part of the input. The function then returns the
+    /// result of `next`, with `End` for `None`. If `last` is `false`, more bytes may follow. The
+    /// function then returns the next item if no byte after the part can change the item, and
+    /// `More` otherwise.
+    ///
+    /// After `More`, the lexer has passed the matches without an item, and the span of the lexer is
+    /// empty. The next match attempt has reached the end of the part, and more bytes or the end of
+    /// the input can continue the attempt. To continue, append more bytes to the bytes of
+    /// `remainder`, and create a lexer for all these bytes.
     pub fn next_within(&mut self, last: bool) -> Within<'i>
         requires { TakesMatches C.Fn self.old.code self.old.callback }
         ensures keeps { KeepsGiven self.old self.new }
@@ -96,7 +98,7 @@ enum Move {
 /// number of states that the attempt entered.
 #[derive(Clone, Copy)]
 enum Settled {
-    /// A match of this leaf, up to this offset.
+    /// A match of this leaf that ends at this offset.
     Matched(LeafId, usize, usize),
     /// No match. The error ends at this offset.
     Failed(usize, usize),

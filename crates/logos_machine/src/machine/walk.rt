@@ -1,5 +1,5 @@
-//! The fast path of an attempt, which loads one entry for each byte. Called by `Lexer::next` and
-//! `logos_scan`.
+//! The fast path of a match attempt, which loads one table entry for each byte. Called by
+//! `Lexer::next` and `logos_scan`.
 
 ghost use Rattle.std.specs.Prelude.{◌≡◌, ◌<◌, ◌≤◌, ◌/◌, ◌%◌, length, slice_index_or};
 ghost use Rattle.logos_machine.specs.Views.{state_at, IsSound, IsEntry, IsRowStart, Reaches, LooksAhead, IsOutcome};
@@ -18,9 +18,9 @@ use logos_hir::leaf::LeafId;
 /// states that the attempt entered.
 #[derive(Clone, Copy)]
 pub enum Outcome {
-    /// A match up to this offset, which is skipped.
+    /// A match that ends at this offset and that the lexer skips.
     Skips(usize),
-    /// A match of this leaf that is a token.
+    /// A match of this leaf that becomes a token.
     Emits(LeafId, usize, usize),
     /// A match of this leaf, which may have a callback.
     CallsBack(LeafId, usize, usize),
@@ -52,8 +52,9 @@ pub fn attempt(code: &Code, input: &[u8], start: usize) -> Outcome
 }
 
 /// Returns the outcome of an attempt from `start` on that records the marks passed. Only
-/// `attempt_with_marks` is called out of line. Its result is in memory, but the outcome is created
-/// from the result inline, so that the compiler can keep the outcome in registers.
+/// `attempt_with_marks` is called out of line. The result of this function is in memory, but the
+/// outcome is created from the result inline, so that the compiler can keep the outcome in
+/// registers.
 #[inline(always)]
 fn attempt_slowly(code: &Code, input: &[u8], start: usize) -> Outcome
     requires { start ≤ length input.now }
@@ -175,9 +176,10 @@ fn walk(code: &Code, input: &[u8], start: usize, first: u32) -> (u32, usize, usi
     (code.last_entry(row_start), at, before, row_start)
 }
 
-/// Returns the entry after a fast loop, and the offset of the byte of this entry. `entry` is the
-/// entry of the byte at the offset `at`, and leads back to the state. At the end of the input, the
-/// returned entry is the state's entry for the end.
+/// Returns the entry after the fast loop of the state with the row offset `row_start`, and the
+/// offset of the byte of this entry. `entry` must be the entry of the byte at the offset `at`, and
+/// must lead back to the state. At the end of the input, the returned entry is the state's entry
+/// for the end.
 #[inline(always)]
 fn look_far(code: &Code, input: &[u8], row_start: usize, at: usize, entry: u32) -> (u32, usize)
     requires sound { IsSound code.now }

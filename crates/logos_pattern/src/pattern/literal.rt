@@ -1,5 +1,5 @@
-//! Defines the literals of patterns, with their values. The readers of attributes make literals,
-//! and `pattern` makes patterns from them.
+//! The literals of patterns, with their values. The readers of attributes make literals, and
+//! `pattern` makes patterns from literals.
 
 ghost use Rattle.std.specs.Prelude.{◌≡◌, ◌<◌, ◌++◌, OnOk, string_bytes, IfOk, IfSome, option_map};
 ghost use Rattle.logos_pattern.specs.Views.{flat_map, chars, is_metacharacter, escaped_character, upper_digit, escaped_byte, escaped_bytes, IsValue, token_of, held_value, is_unicode, held_bytes, escaped};
@@ -75,8 +75,8 @@ fn push_text(text: &mut String, value: &str) -> Result<(), AllocError>
     Ok(())
 }
 
-/// Appends a byte of a byte string to the text of a pattern. The byte is appended as `\xNN` if it
-/// is greater than 0x7F, and as its character otherwise. If `literal` is `true`, a `\` precedes a
+/// Appends a byte of a byte string to the text of a pattern. A byte greater than 0x7F is appended
+/// as `\xNN`, and any other byte as its character. If `literal` is `true`, a `\` precedes a
 /// character with a special meaning, so that the pattern matches exactly the byte.
 fn push_byte(text: &mut String, literal: bool, byte: u8) -> Result<(), AllocError>
     ensures { OnOk result (string_bytes text.new ≡

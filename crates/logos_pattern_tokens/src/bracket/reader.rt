@@ -1,5 +1,5 @@
-//! Reads one token from the front of a text, inside brackets. `logos_syntax` calls it for each
-//! token between `[` and `]`.
+//! `bracket_token_at` reads one token from the front of a text inside brackets. `logos_syntax`
+//! calls `bracket_token_at` for each token between `[` and `]`.
 
 ghost use Rattle.std.specs.Prelude.{◌≡◌, ◌+◌, ◌≤◌, Option, Some, MatchOption, option_map};
 ghost use Rattle.logos_pattern_tokens.specs.Views.{Yields, code_of, begins_operator, begins_range, symbol_of, last_at, range_token, range_at, lone_at, escape_item, item_at, dashes_from, lead_at, open_at, class_end, name_end, colon_at, class_at, inner_at, operator_of, bracket_token_at};
@@ -70,9 +70,12 @@ fn no_symbol(atom: Atom) -> Kind {
 ///
 /// # Errors
 ///
-/// Returns `Unclosed` if the text is empty, `ClassRange` if it begins with a class, `EscapeUnknown`
-/// if it begins with another escape that is not a character, and otherwise the errors of
-/// `escape_at`.
+/// Returns:
+///
+/// - `Unclosed` if the text is empty
+/// - `ClassRange` if the text begins with a class
+/// - `EscapeUnknown` if the text begins with another escape that is not a character
+/// - the error of `escape_at` if an escape cannot be read
 #[tactic(auto, unfolding(crate::specs::bracket::Reader::last_at))]
 fn last_at(alloc: Global, text: &[char]) -> Result<(Symbol, &[char]), Fault>
     ensures { Yields (λ x. (x.0, x.1.now)) result (last_at text.now) }
@@ -166,8 +169,11 @@ fn escape_item(alloc: Global, atom: Atom, rest: &[char]) -> Result<(BracketToken
 ///
 /// # Errors
 ///
-/// Returns `Unclosed` if the text is empty, the fault of the element if it is malformed, and
-/// `Memory` if memory runs out.
+/// Returns:
+///
+/// - `Unclosed` if the text is empty
+/// - the fault of the element if the element is malformed
+/// - `Memory` if memory runs out
 #[tactic(auto, unfolding(crate::specs::bracket::Reader::item_at))]
 fn item_at(alloc: Global, text: &[char]) -> Result<(BracketToken, &[char]), Fault>
     ensures { Yields (λ x. (x.0, x.1.now)) result (item_at text.now) }
@@ -265,7 +271,7 @@ fn name_end(negated: bool, text: &[char]) -> Option<(BracketToken, &[char])>
 }
 
 /// Reads `name:]` or `^name:]`. Returns the class and the rest of the text, or `None` if the text
-/// does not begin in one of these forms.
+/// does not begin with one of these forms.
 #[tactic(auto, unfolding(crate::specs::bracket::Reader::colon_at))]
 fn colon_at(text: &[char]) -> Option<(BracketToken, &[char])>
     ensures { option_map (λ x. (x.0, x.1.now)) result ≡ colon_at text.now }
@@ -278,7 +284,7 @@ fn colon_at(text: &[char]) -> Option<(BracketToken, &[char])>
 }
 
 /// Reads `:name:]` or `:^name:]`, a class of ASCII characters. Returns the class and the rest of
-/// the text, or `None` if the text does not begin in one of these forms.
+/// the text, or `None` if the text does not begin with one of these forms.
 #[tactic(auto, unfolding(crate::specs::bracket::Reader::class_at))]
 fn class_at(text: &[char]) -> Option<(BracketToken, &[char])>
     ensures { option_map (λ x. (x.0, x.1.now)) result ≡ class_at text.now }
@@ -321,8 +327,11 @@ fn operator_of(c: char) -> SetOperator
 ///
 /// # Errors
 ///
-/// Returns `Unclosed` if the text is empty, the fault of the token if it is malformed, and `Memory`
-/// if memory runs out.
+/// Returns:
+///
+/// - `Unclosed` if the text is empty
+/// - the fault of the token if the token is malformed
+/// - `Memory` if memory runs out
 #[tactic(auto, unfolding(crate::specs::bracket::Reader::bracket_token_at))]
 pub fn bracket_token_at(alloc: Global, text: &[char]) -> Result<(BracketToken, &[char]), Fault>
     ensures { Yields (λ x. (x.0, x.1.now)) result (bracket_token_at text.now) }

@@ -1,4 +1,4 @@
-//! The tokens inside brackets. `bracket::reader` returns them.
+//! Defines the tokens inside the brackets of a pattern. `bracket::reader` returns these tokens.
 
 use logos_hir::property::{AsciiKind, PerlKind};
 use logos_hir::sets::operands::SetOperator;
@@ -9,7 +9,8 @@ use unicode::sets::Set;
 pub enum Symbol {
     /// A character, or an escape of a character other than `\xNN`.
     Character(char),
-    /// `\xNN`: a byte if the pattern matches bytes, and the character with this number otherwise.
+    /// `\xNN`: a byte if the pattern matches bytes, and the character with the code point `NN`
+    /// otherwise.
     Byte(u8),
 }
 

@@ -1,5 +1,5 @@
-//! Builds the table for reading the characters of a class. `prepare` calls `table_of` for each
-//! class of characters.
+//! Builds the table that reads the characters of a class byte by byte. `prepare` calls `table_of`
+//! for each class of characters.
 
 ghost use Rattle.std.specs.Prelude.{zero, min, ◌≡◌, ℕ, ◌+◌, ◌-◌, ◌*◌, ◌/◌, ◌%◌, ◌^◌, ◌<◌, ◌≤◌, ◌||◌, OnOk, IfOk, IfSome, Bool, Some, None, slice_index_or, length, vec_len};
 ghost use Rattle.logos_positions.specs.Views.{MatchOption, size, lead, after_byte, is_char_in, IsReaderOf, pairs, in_ranges, AreParts, from_floor};
@@ -17,12 +17,13 @@ pub struct CharacterRest {
     /// The number of remaining bytes.
     pub left: u8,
     /// The characters that the remaining bytes can complete, as offsets in the block of numbers
-    /// that these bytes distinguish.
+    /// that the remaining bytes distinguish.
     pub offsets: Vec<CharRange>,
 }
 
-/// The numbers of the characters with a given first byte: the numbers from `floor` on in a block
-/// that begins at `start`. `left` further bytes distinguish the numbers of the block.
+/// The block of the characters with a given first byte. The block begins at the number `start`, but
+/// only the numbers from `floor` on are characters with this first byte. `left` further bytes
+/// distinguish the numbers of the block.
 #[derive(Clone, Copy)]
 struct Block {
     left: u8,
@@ -30,7 +31,7 @@ struct Block {
     start: u32,
 }
 
-/// Returns the number of the row for `rest`, and adds the row to `rests` if it is new.
+/// Returns the number of the row for `rest`, and adds the row to `rests` if the row is new.
 ///
 /// # Errors
 ///
@@ -50,8 +51,7 @@ fn number_of(rests: &mut IndexSet<CharacterRest>, rest: CharacterRest) -> Result
 }
 
 /// Returns the number of the row for a rest of `left` bytes with `offsets`, and adds the row to
-/// `rests` if it is new. Returns `None` if there are no offsets, and otherwise 0 if no byte is
-/// left.
+/// `rests` if the row is new. The number is 0 if `left` is 0. Returns `None` if `offsets` is empty.
 ///
 /// # Errors
 ///
@@ -114,7 +114,7 @@ fn row_for(
 }
 
 /// Returns the block of the characters that begin with `byte`, or `None` if no character begins
-/// with it.
+/// with `byte`.
 fn block_of(byte: u8) -> Option<Block>
     ensures block { MatchOption result (lead byte ≡ None)
         (λ block. lead byte ≡ Some (table.lead_of block)) }
@@ -158,8 +158,8 @@ fn block_of(byte: u8) -> Option<Block>
     None
 }
 
-/// Returns the number of the row after the first byte `byte`, and adds the row to `rests` if it is
-/// new. Returns `None` if no character of `ranges` begins with the byte.
+/// Returns the number of the row after the first byte `byte`, and adds the row to `rests` if the
+/// row is new. Returns `None` if no character of `ranges` begins with the byte.
 ///
 /// # Errors
 ///
@@ -185,8 +185,8 @@ fn first_for(
     row_for(alloc, rests, ranges, block)
 }
 
-/// Returns the offsets that remain of `rest` after a continuation byte. `part` is the number of the
-/// byte, from 0 to 63, and `left` is the number of bytes after the byte.
+/// Returns the offsets that remain of `rest` after a continuation byte. `part` is the byte minus
+/// `0x80`, and `left` is the number of bytes that follow the byte.
 ///
 /// # Errors
 ///
@@ -213,8 +213,8 @@ fn after(
 }
 
 /// Returns the number of the row after `row` and a continuation byte, and adds the row to `rests`
-/// if it is new. `part` is the number of the byte, from 0 to 63. Returns `None` if no character
-/// continues with the byte.
+/// if the row is new. `part` is the byte minus `0x80`. Returns `None` if no character continues
+/// with the byte.
 ///
 /// # Errors
 ///
@@ -248,7 +248,7 @@ fn next_for(
     position(rests, left, offsets)
 }
 
-/// Returns the size of a block of numbers that `left` continuation bytes distinguish.
+/// Returns the number of values that `left` continuation bytes distinguish.
 fn block_size(left: u8) -> u32
     requires { left ≤ 3 }
     ensures size { result ≡ size left }
@@ -323,8 +323,9 @@ fn follow_row(
     Ok(())
 }
 
-/// Returns, for each row and each continuation byte, the number of the row after them, or `None` if
-/// there is no such row. Adds new rows to `rests`; the result includes the rows after the new rows.
+/// Returns, for each row and each continuation byte, the number of the row to which they lead, or
+/// `None` if there is no such row. Adds new rows to `rests`. The result includes the rows that
+/// follow these new rows.
 ///
 /// # Errors
 ///
@@ -351,7 +352,7 @@ fn follow_cells(
     Ok(cells)
 }
 
-/// Returns the list that contains only row 0. At row 0 a whole character has been read.
+/// Returns the set that contains only row 0. At row 0, a whole character has been read.
 ///
 /// # Errors
 ///
@@ -367,7 +368,7 @@ fn start(alloc: Global) -> Result<IndexSet<CharacterRest>, AllocError>
     Ok(rests)
 }
 
-/// Builds the table for reading the characters of `ranges`.
+/// Builds the table that reads the characters of `ranges`.
 ///
 /// # Errors
 ///

@@ -1,4 +1,5 @@
-//! Ranges of characters. The builder of tables clips the ranges to blocks of numbers.
+//! Converts ranges of a class to ranges of characters, and clips these ranges to blocks of numbers.
+//! Called by `builder`.
 
 ghost use Rattle.std.specs.Prelude.{◌&&◌, nat_le, ◌≡◌, ℕ, ◌+◌, ◌^◌, ◌<◌, ◌≤◌, ◌||◌, OnOk, IfOk};
 ghost use Rattle.logos_positions.specs.Views.{scalar, pairs, is_in, is_char_in, in_range, in_ranges, from_floor, ClipsTo, AreParts};
@@ -106,8 +107,8 @@ fn push_range(out: &mut Vec<CharRange>, first: u32, last: u32) -> Result<(), All
     Ok(())
 }
 
-/// Appends the characters of `range` to `out`. Leaves out surrogates and numbers past the last
-/// character.
+/// Appends the characters of `range` to `out`. Leaves out surrogates and numbers greater than the
+/// last character.
 ///
 /// # Errors
 ///
@@ -121,7 +122,8 @@ fn push_scalars(out: &mut Vec<CharRange>, range: Range) -> Result<(), AllocError
     push_range(out, range.first.max(0xE000), range.last.min(0x10_FFFF))
 }
 
-/// Returns the characters of `ranges`. Leaves out surrogates and numbers past the last character.
+/// Returns the characters of `ranges`. Leaves out surrogates and numbers greater than the last
+/// character.
 ///
 /// # Errors
 ///

@@ -1,19 +1,19 @@
-//! A table for reading a character of a class byte by byte. A step on a class of characters looks
-//! up the next row in the table.
+//! Contains the table that reads a character of a class byte by byte. For each byte,
+//! `positions::step` looks up the next row in the table.
 
 ghost use Rattle.std.specs.Prelude.{◌<◌, ◌^◌};
 
-/// A class of characters as an automaton over the bytes of UTF-8. At row 0 a whole character has
-/// been read; at each other row a prefix of a character has been read.
+/// A class of characters as an automaton over the bytes of UTF-8. At row 0, a whole character has
+/// been read. At any other row, a proper prefix of a character has been read.
 #[derive(Drop)]
 pub struct CharacterTable {
     /// The number of rows.
     pub rows: usize,
-    /// The row after each first byte, indexed by the byte, or `None` if no character of the class
-    /// begins with the byte.
+    /// For each byte, the row after the byte as the first byte of a character, or `None` if no
+    /// character of the class begins with the byte.
     pub first: Vec<Option<usize>>,
-    /// The row after each row and each continuation byte, or `None` if no character continues with
-    /// the byte. Each row has 64 entries.
+    /// For each row and each continuation byte, the row after them, or `None` if no character
+    /// continues with the byte. Each row has 64 entries.
     pub follow: Vec<Option<usize>>,
     ghost some: { 0 < rows },
     ghost few: { rows < 2 ^ 16 },
@@ -24,7 +24,7 @@ impl CharacterTable {
     ghost use Rattle.logos_positions.specs.Table as table;
 
     /// Returns the row after the first byte `byte`, or `None` if no character of the class begins
-    /// with it.
+    /// with `byte`.
     pub fn first(&self, byte: u8) -> Option<usize>
         ensures { result ≡ (table.reader_of self.now).first byte }
     {
@@ -35,7 +35,7 @@ impl CharacterTable {
     }
 
     /// Returns the row after `row` and `byte`, or `None` if no character of the class continues
-    /// with the byte.
+    /// with `byte`.
     pub fn follow(&self, row: usize, byte: u8) -> Option<usize>
         requires { row < self.now.rows }
         ensures { result ≡ (table.reader_of self.now).follow row byte }

@@ -1,5 +1,6 @@
-//! Determines whether a tree can be left: whether a match of the tree ends at a point. Steps call
-//! `exits` for the body of a repetition without an upper bound, and `trees` calls it for each tree.
+//! Determines whether a tree can be left at a point, that is, whether a match of the tree ends at
+//! the point. `step` calls `exits` for the body of a repetition without an upper bound, and `trees`
+//! calls `exits` for each tree.
 
 ghost use Rattle.std.specs.Prelude.{max, ◌≡◌, ℕ, ◌+◌, ◌*◌, ◌-◌, ◌^◌, ◌<◌, ◌⊎◌, ◌↔◌, IsTrue, Bool, false, List, length};
 ghost use Rattle.logos_positions.specs.Views.{Core, Exits, IsFirstFrom, IsRising, Has, spelled, in_front, up_to, at_least, repeated, count_of, IsOrdered, Look, test_at, core_of, is_measured};
@@ -11,7 +12,7 @@ use crate::positions::set::{
     OwnPositions, alike_copies, any_mark, has_mark, next_copy, own_positions,
 };
 
-/// Returns whether the tree `node` at `spot` can be left at the point `at`. `marks` are the
+/// Returns whether the tree `node` at `spot` can be left at the point `at`. `marks` contains the
 /// positions that read the byte before the point, in ascending order.
 #[cycle(exits)]
 pub(crate) fn exits(node: &Node, marks: &[usize], spot: TreeSpot, at: Context) -> bool
@@ -33,9 +34,9 @@ pub(crate) fn exits(node: &Node, marks: &[usize], spot: TreeSpot, at: Context) -
     exits_node(node, marks, spot, at)
 }
 
-/// Returns whether the tree `node`, which is not entered, can be left at the point `at`. `own` are
-/// the positions of the tree in the set `marks`; there must be at least one. Branches of
-/// alternations without a position in the set are skipped.
+/// Returns whether the tree `node`, which is not entered, can be left at the point `at`. `own`
+/// contains the positions of the tree in the set `marks`, and must not be empty. Skips the branches
+/// of alternations that have no position in the set.
 #[cycle(exits)]
 fn exits_marked(node: &Node, marks: &[usize], own: OwnPositions, at: Context) -> bool
     requires fits { own.base + core.width (core_of node.now) < 2 ^ 64 }
@@ -67,8 +68,7 @@ fn exits_marked(node: &Node, marks: &[usize], own: OwnPositions, at: Context) ->
     one | other
 }
 
-/// Returns whether the tree `node` at `spot` can be left at the point `at`, with a case for each
-/// form of tree.
+/// Does the same as `exits` for the tree `node` at `spot`, with a case for each variant of `Node`.
 #[cycle(exits)]
 fn exits_node(node: &Node, marks: &[usize], spot: TreeSpot, at: Context) -> bool
     requires fits { spot.base + core.width (core_of node.now) < 2 ^ 64 }
@@ -106,8 +106,8 @@ fn exits_node(node: &Node, marks: &[usize], spot: TreeSpot, at: Context) -> bool
     }
 }
 
-/// Returns whether a literal can be left. An empty literal can be left if it is entered, and any
-/// other literal if its last position is in the set `marks`.
+/// Returns whether a literal can be left. An empty literal can be left if the literal is entered.
+/// Any other literal can be left if its last position is in the set `marks`.
 fn exits_literal(text: &[u8], marks: &[usize], spot: TreeSpot) -> bool
     requires fits { spot.base + length text.now < 2 ^ 64 }
     requires rising { IsRising marks.now }
@@ -178,9 +178,10 @@ fn exits_at_least(body: &Node, copies: Copies, marks: &[usize], at: Context) -> 
     exits(body, marks, copies.at(fronts.count, front), at)
 }
 
-/// Returns the number of consecutive copies in `rest`, after the first copy, that have the same
-/// positions as the first copy and are entered exactly if the first copy is. These copies can be
-/// left exactly if the first copy can be. `left` is `true` if the first copy can be left.
+/// Returns the number of consecutive copies in `rest`, after the first copy, that agree with the
+/// first copy: they have the same positions, and they are entered if and only if the first copy is.
+/// These copies can be left if and only if the first copy can be left. `left` is `true` if the
+/// first copy can be left.
 fn alike_exits(marks: &[usize], rest: Copies, left: bool) -> usize
     requires rising { IsRising marks.now }
     requires fits { rest.base + rest.each * rest.count < 2 ^ 64 }

@@ -1,5 +1,5 @@
-//! Evaluates look-around assertions from the kind of the byte before a point and the byte after the
-//! point. Steps and exits call `holds` for each assertion of a tree.
+//! Evaluates look-around assertions at a point, from the kind of the byte before the point and from
+//! the byte after the point. `step` and `exits` call `holds` for each assertion of a tree.
 
 ghost use Rattle.std.specs.Prelude.{◌≡◌, Some, is_none};
 ghost use Rattle.logos_positions.specs.Views.{is_byte, side_before, kind_of_byte, test_at, is_word_byte};

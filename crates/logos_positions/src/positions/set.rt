@@ -1,4 +1,5 @@
-//! Sets of positions, as ascending lists. Steps and exits search these sets.
+//! Functions on sets of positions, which are stored as ascending lists. `step` and `exits` search
+//! these sets.
 
 ghost use Rattle.std.specs.Prelude.{◌⊎◌, OnOk, ◌^◌, ◌≡◌, ℕ, ◌+◌, ◌-◌, ◌*◌, ◌<◌, ◌≤◌, ◌↔◌, IsTrue, IsFalse, length, slice_index};
 ghost use Rattle.logos_positions.specs.Marks.{IsRising, IsSet, Has, HasBetween, IsFirstFrom};
@@ -56,7 +57,7 @@ pub fn any_mark(marks: &[usize], from: usize, width: usize) -> bool
     i < marks.len() && marks[i] - from < width
 }
 
-/// The positions of a tree that are in a set: the positions at the indexes `from..to` of the set.
+/// The positions of a tree that are in a set: the positions at the indices `from..to` of the set.
 #[derive(Clone, Copy)]
 pub struct OwnPositions {
     /// The first position of the tree.
@@ -137,11 +138,11 @@ fn empty_copies(marks: &[usize], copies: Copies) -> usize
     ((marks[i] - copies.base) / copies.each).min(copies.count)
 }
 
-/// Returns the number of the first copy, from the copy with the number `done` on, that is entered
-/// or has a position in `marks`. Returns the number of copies if there is no such copy.
+/// Returns the index of the first copy, from the index `done` on, that is entered or has a position
+/// in `marks`. Returns the number of copies if there is no such copy.
 ///
-/// `entered` is `true` if the copy with the number `done` is entered. If it is not, a later copy
-/// can be entered only after a copy with a position.
+/// `entered` is `true` if the copy at the index `done` is entered. If this copy is not entered, a
+/// later copy can be entered only after a copy that has a position in `marks`.
 pub fn next_copy(marks: &[usize], copies: Copies, done: usize, entered: bool) -> usize
     requires rising { IsRising marks.now }
     requires fits { copies.base + copies.each * copies.count < 2 ^ 64 }
@@ -165,8 +166,9 @@ pub fn next_copy(marks: &[usize], copies: Copies, done: usize, entered: bool) ->
 }
 
 /// Returns whether another copy has the same positions as the first of `copies`. In `marks`, the
-/// positions of the first copy are at the indexes `from..to`, and the positions of the other copy
-/// begin at the index `at`. `shift` is the distance between the two copies.
+/// positions of the first copy are at the indices `from..to`, and the positions of the other copy
+/// begin at the index `at`. `shift` is the distance from the first position of the first copy to
+/// the first position of the other copy.
 fn is_marked_alike(
     marks: &[usize],
     from: usize,
@@ -229,7 +231,7 @@ pub fn alike_copies(marks: &[usize], copies: Copies) -> usize
     more
 }
 
-/// Appends the positions at the indexes `from..to`, each increased by `shift`, to `positions`.
+/// Appends the positions at the indices `from..to`, each increased by `shift`, to `positions`.
 ///
 /// # Errors
 ///
@@ -263,7 +265,8 @@ pub(crate) fn push_moved(
     Ok(())
 }
 
-/// Inserts `position` into the set `marks` in order, unless the set contains it already.
+/// Inserts `position` into the set `marks`, unless the set already contains it. The set remains in
+/// ascending order.
 ///
 /// # Errors
 ///

@@ -1,6 +1,6 @@
-//! Steps from the positions that read one byte to the positions that read the next byte. `tree` and
-//! `trees` call `step` for each tree. Each step adds the positions of its tree that read the byte
-//! to `next`, and returns whether the tree can be left before the byte.
+//! Makes steps from the positions that read one byte to the positions that read the next byte.
+//! `tree` and `trees` call `step` for each tree. Each step adds the positions of its tree that read
+//! the byte to `next`, and returns whether the tree can be left before the byte.
 
 ghost use Rattle.std.specs.Prelude.{max, ◌≡◌, ℕ, ◌+◌, ◌-◌, ◌*◌, ◌^◌, ◌<◌, ◌≤◌, ◌⊎◌, IsTrue, IfOk, OnOk, IfSome, ◌↔◌, Bool, false, Option, Some, List, length, slice_get, slice_index};
 ghost use Rattle.logos_positions.specs.Views.{Core, IsFirstFrom, IsRising, IsSet, Has, spelled, in_front, up_to, at_least, repeated, count_of, IsOrdered, Stepped, Owes, is_in, pairs, Look, test_at, core_of, is_measured, reader_of};
@@ -43,8 +43,9 @@ pub fn has_byte(ranges: &[Range], byte: u8) -> bool
     false
 }
 
-/// Steps on a tree with one position: appends the position to `next` if it reads the byte. `fits`
-/// is `true` if the tree matches the byte. Returns whether the tree can be left before the byte.
+/// Steps on a tree with one position: appends the position to `next` if the position reads the
+/// byte. `fits` is `true` if the tree matches the byte. Returns whether the tree can be left before
+/// the byte.
 ///
 /// # Errors
 ///
@@ -72,8 +73,8 @@ fn step_byte(
     Ok(left)
 }
 
-/// Steps on the class of bytes with `ranges`: appends the position of the class to `next` if it
-/// reads the byte. Returns whether the class can be left before the byte.
+/// Steps on the class of bytes with `ranges`: appends the position of the class to `next` if the
+/// position reads the byte. Returns whether the class can be left before the byte.
 ///
 /// # Errors
 ///
@@ -132,8 +133,8 @@ fn step_literal(
     Ok(left)
 }
 
-/// Appends the position `position + 1` to `next` if it belongs to the literal `text` and reads
-/// `byte`. The positions of the literal begin at `base`.
+/// Appends the position `position + 1` to `next` if this position belongs to the literal `text` and
+/// reads `byte`. The positions of the literal begin at `base`.
 ///
 /// # Errors
 ///
@@ -162,8 +163,8 @@ fn push_after(
 }
 
 /// Steps on the literal `text`, which is not entered: appends to `next` the positions of the
-/// literal that read the byte. `own` are the positions of the literal in the set. Returns whether
-/// the literal can be left before the byte.
+/// literal that read the byte. `own` contains the positions of the literal in the set `by.marks`.
+/// Returns whether the literal can be left before the byte.
 ///
 /// # Errors
 ///
@@ -293,9 +294,9 @@ pub(crate) fn step(
     step_node(node, by, spot, next)
 }
 
-/// Steps like `step` on the tree `node`, which is not entered. `own` are the positions of the tree
-/// in the set; there must be at least one. Branches of alternations without a position in the set
-/// are skipped.
+/// Does the same as `step` for the tree `node`, which is not entered. `own` contains the positions
+/// of the tree in the set `by.marks`, and must not be empty. Skips the branches of alternations
+/// that have no position in the set.
 ///
 /// # Errors
 ///
@@ -341,7 +342,7 @@ fn step_marked(
     Ok(one | other)
 }
 
-/// Steps like `step` on the tree `node` at `spot`, with a case for each form of tree.
+/// Does the same as `step` for the tree `node` at `spot`, with a case for each variant of `Node`.
 ///
 /// # Errors
 ///
@@ -390,8 +391,8 @@ fn step_node(
     }
 }
 
-/// Steps like `step` on a repetition of `body`. The repetition has at least `copies.count` copies,
-/// and at most `most` unless `most` is `None`.
+/// Does the same as `step` for a repetition of `body`. The repetition has at least `copies.count`
+/// copies, and at most `most` unless `most` is `None`.
 ///
 /// # Errors
 ///
@@ -427,7 +428,7 @@ fn step_repeat(
     step_up_to(body, rest, by, next)
 }
 
-/// Steps like `step` on a repetition of `body` at least `copies.count` times.
+/// Does the same as `step` for a repetition of `body` at least `copies.count` times.
 ///
 /// # Errors
 ///
@@ -464,9 +465,10 @@ fn step_at_least(
     step_plus(body, by, copies.at(fronts.count, front), next)
 }
 
-/// Steps on the consecutive copies in `rest`, after the first copy, that have the same positions as
-/// the first copy and are entered exactly if the first copy is. Returns the number of these copies.
-/// The step on the first copy has been made, and `left` is `true` if the first copy can be left.
+/// Steps on the consecutive copies in `rest`, after the first copy, that agree with the first copy:
+/// they have the same positions, and they are entered if and only if the first copy is. Returns the
+/// number of these copies. The step on the first copy must have been made. `left` is `true` if the
+/// first copy can be left.
 ///
 /// # Errors
 ///
@@ -504,9 +506,9 @@ fn repeat_step(
     Ok(count)
 }
 
-/// Steps like `step` on all of `copies`. Each copy after the first is entered if the preceding copy
-/// can be left. Returns whether the last copy can be left, or `copies.entered` if there are no
-/// copies.
+/// Does the same as `step` for each of `copies`. Each copy after the first is entered if the
+/// preceding copy can be left. Returns whether the last copy can be left, or `copies.entered` if
+/// there are no copies.
 ///
 /// # Errors
 ///
@@ -539,7 +541,7 @@ fn step_copies(
     Ok(left)
 }
 
-/// Steps like `step` on a repetition of `body` at most `copies.count` times.
+/// Does the same as `step` for a repetition of `body` at most `copies.count` times.
 ///
 /// # Errors
 ///
@@ -573,8 +575,8 @@ fn step_up_to(
     Ok(any | left)
 }
 
-/// Steps like `step` on `body`, repeated one or more times. All repetitions share the positions of
-/// one copy.
+/// Does the same as `step` for `body`, repeated one or more times. All repetitions share the
+/// positions of one copy.
 ///
 /// # Errors
 ///

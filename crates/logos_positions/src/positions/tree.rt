@@ -1,5 +1,5 @@
-//! Steps on one of several trees with consecutively numbered positions. `logos_automaton` calls
-//! `step_tree` for the steps that it stores.
+//! Makes a step on one of several trees with consecutively numbered positions. `logos_automaton`
+//! calls `step_tree` for the steps that it stores.
 
 ghost use Rattle.std.specs.Prelude.{◌^◌, ◌<◌, ◌+◌, IsTrue, IfOk};
 ghost use Rattle.logos_positions.specs.Views.{IsRising, test_at, core_of, is_measured, IsStepOf};

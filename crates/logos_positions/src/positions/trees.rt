@@ -1,5 +1,5 @@
-//! Steps on several trees with consecutively numbered positions. `logos_automaton` calls `step_all`
-//! and `exits_all` for the key of each state.
+//! Makes steps on several trees with consecutively numbered positions. `logos_automaton` calls
+//! `step_all` and `exits_all` for the key of each state.
 
 ghost use Rattle.std.specs.Prelude.{◌≡◌, ◌∷◌, ◌++◌, ◌^◌, ◌<◌, ◌≤◌, ◌+◌, ◌-◌, ℕ, [], IsTrue, IsFalse, IfOk, OnOk, length, map, slice_index, if◌then◌else◌};
 ghost use Rattle.logos_positions.specs.Views.{IsRising, Has, HasBetween, width_of, test_at, core_of, AreMeasured, ReadBy, LeftBy, AreStarts};
@@ -30,8 +30,8 @@ pub struct JointStep {
 }
 
 /// Returns the number of the tree to which `position` belongs. The search begins at the tree with
-/// the number `from`. `starts` are the first position of each tree and the position after the last
-/// tree.
+/// the number `from`. `starts` contains the first position of each tree, and the position after the
+/// last tree.
 fn tree_at(starts: &[usize], from: usize, position: usize) -> usize
     requires some { from + 1 < length starts.now }
     requires low { slice_index starts.now from ≤ position }
@@ -138,7 +138,7 @@ pub fn step_all(
 }
 
 /// Returns the numbers of the trees that can be left at the point `at`, in ascending order. `marks`
-/// are the positions that read the byte before the point. `entered` is `true` if all trees are
+/// contains the positions that read the byte before the point. `entered` is `true` if all trees are
 /// entered, and `false` if none is.
 ///
 /// # Errors

@@ -25,8 +25,8 @@ fn hull(one: Range, other: Range) -> Range
     }
 }
 
-/// Returns the index of the first of `ranges` that overlaps `range` or is adjacent to it, or the
-/// number of ranges if there is no such range.
+/// Returns the index of the first of `ranges` that overlaps `range` or is adjacent to `range`.
+/// Returns the number of ranges if there is no such range.
 fn near_range(ranges: &[Range], range: Range) -> usize
     ensures within { result ≤ length ranges.now }
     ensures near { IfSome (slice_get ranges.now result) (λ found. AreNear found range) }
@@ -41,8 +41,8 @@ fn near_range(ranges: &[Range], range: Range) -> usize
     i
 }
 
-/// Adds `range` to a class: extends the first of `ranges` that overlaps `range` or is adjacent to
-/// it. Appends `range` if there is no such range.
+/// Adds `range` to the class with `ranges`: extends the first range that overlaps `range` or is
+/// adjacent to it. Appends `range` if there is no such range.
 ///
 /// # Errors
 ///
@@ -86,8 +86,8 @@ fn ranges_of(node: &Node) -> Option<&[Range]>
     }
 }
 
-/// Returns the ranges of the union of `first` and `second`, or `None` if one of them is not a class
-/// of bytes.
+/// Returns the ranges of the union of `first` and `second`, or `None` if one of the two trees is
+/// not a class of bytes.
 ///
 /// # Errors
 ///

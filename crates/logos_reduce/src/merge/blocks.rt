@@ -1,5 +1,5 @@
-//! Blocks of states. `merge` begins with a block for each set of states with equal marks, and then
-//! splits these blocks.
+//! Contains blocks of states. `merge` begins with one block for each group of states with equal
+//! marks, and then splits these blocks.
 
 ghost use Rattle.std.specs.Prelude.{None, ◌≡◌, ◌≢◌, ℕ, ◌+◌, ◌<◌, ◌≤◌, IfOk, length, vec_len, slice_index, slice_index_or};
 ghost use Rattle.logos_reduce.specs.Merge.{AreLeaders, IsSound, split_at};
@@ -10,8 +10,7 @@ use crate::table::{StateMarks, Table};
 use indexmap::IndexSet;
 use std::alloc::{AllocError, Global};
 
-/// A split: the separation of a new block from another block, by a symbol or by the marks of
-/// states.
+/// The separation of a new block from another block, by a symbol or by the marks of states.
 #[derive(Clone, Copy, Drop)]
 pub struct Split {
     /// The number of the other block, which is lower than the number of the new block.
@@ -32,7 +31,7 @@ pub struct Blocks {
     ghost within: { (s : ℕ) → s < vec_len of → slice_index of.items s < vec_len splits },
 }
 
-/// Returns a key of `mark`. Only equal marks have equal keys.
+/// Returns a key of `mark`. Two marks have equal keys if and only if the marks are equal.
 fn key_of(mark: StateMarks) -> [usize; 4]
     ensures { result ≡ inside.key_of mark }
 {
@@ -87,7 +86,7 @@ pub fn by_marks(alloc: Global, table: &Table) -> Result<Blocks, AllocError>
 }
 
 /// Returns, for each of the `count` blocks, one of its states, or 0 if the block has no states.
-/// `of` is the block of each state.
+/// `of` contains the block of each state.
 ///
 /// # Errors
 ///

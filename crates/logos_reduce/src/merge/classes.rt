@@ -1,5 +1,5 @@
 //! Groups states with equal marks and equal rows into classes, so that classes are merged instead
-//! of states. `merge` calls `classes_of`, and then `class_table` if there are few classes.
+//! of states. `merge` calls `classes_of`, and then `class_table` if merging classes saves time.
 
 ghost use Rattle.std.specs.Prelude.{◌≡◌, ℕ, ◌+◌, ◌<◌, ◌≤◌, ◌^◌, Some, IfOk, length, vec_len, slice_index, option_map};
 ghost use Rattle.logos_reduce.specs.Views.{target_by, target_in, target_of, target_block, rows_of, size, mark, mark_in, AreClasses, IsClassTable};
@@ -55,7 +55,7 @@ pub fn classes_of(alloc: Global, table: &Table) -> Result<Classes, AllocError>
     })
 }
 
-/// Returns `row` with each target replaced by its class. `of` is the class of each state.
+/// Returns `row` with each target replaced by its class. `of` contains the class of each state.
 fn class_row(row: &Row, of: &Vec<usize>) -> Row
     requires inside { (k t : ℕ) → target_by row.now k ≡ Some t → t < vec_len of.now }
     requires few { (s : ℕ) → s < vec_len of.now → slice_index of.now.items s + 1 < 2 ^ 32 }
@@ -73,7 +73,7 @@ fn class_row(row: &Row, of: &Vec<usize>) -> Row
 }
 
 /// Returns the row entry for the class of `target`: one more than the number of the class, or 0 if
-/// `target` is `None`. `of` is the class of each state.
+/// `target` is `None`. `of` contains the class of each state.
 fn class_entry(target: Option<usize>, of: &Vec<usize>) -> u32
     requires inside { (t : ℕ) → target ≡ Some t → t < vec_len of.now }
     requires few { (s : ℕ) → s < vec_len of.now → slice_index of.now.items s + 1 < 2 ^ 32 }
@@ -86,7 +86,7 @@ fn class_entry(target: Option<usize>, of: &Vec<usize>) -> u32
 }
 
 /// Returns the rows of the classes. On each symbol, a class leads to the class of its leader's
-/// target. `of` is the class of each state, and `leaders` contains a state of each class.
+/// target. `of` contains the class of each state, and `leaders` contains a state of each class.
 fn class_rows(
     alloc: Global,
     table: &Table,

@@ -1,21 +1,22 @@
 //! Chooses the next blocks to process, and the symbols for which they are processed. `refine` and
-//! `twins` call the methods of `Hints` for each block. No proof about blocks depends on these
-//! choices.
+//! `twins` call the methods of `Hints`. No proof about blocks depends on these choices.
 
 ghost use Rattle.std.specs.Prelude.{◌≡◌, ℕ, ◌+◌, ◌<◌, ◌≤◌, OnSome, IfOk, vec_len, slice_index};
 
 use std::alloc::{AllocError, Global};
 
-/// The sizes of blocks, and the blocks that are still to be processed.
+/// The sizes of blocks, and the blocks that are still to be processed. A state is hit if it leads
+/// into the block that is being processed, on the symbol for which this block is being processed.
 #[derive(Drop)]
 pub struct Hints {
-    /// For each block, the number of its states that are hit.
+    /// For each block, the number of its hit states.
     counts: Vec<usize>,
     /// For each block, the number of its states.
     sizes: Vec<usize>,
-    /// For each block, whether it is still to be processed.
+    /// For each block, whether the block is still to be processed.
     pending: Vec<bool>,
-    /// For each block, the first symbol for which it is still to be processed.
+    /// For each block that is still to be processed, the first symbol for which the block is to be
+    /// processed.
     first: Vec<usize>,
     /// The blocks that are still to be processed.
     todo: Vec<usize>,
@@ -67,7 +68,7 @@ impl Hints {
         })
     }
 
-    /// Counts one more state of `block` that is hit.
+    /// Adds 1 to the number of hit states of `block`.
     pub fn count_hit(&mut self, block: usize)
         requires { block < vec_len self.old.sizes }
         ensures todo { vec_len self.new.todo ≡ vec_len self.old.todo }
@@ -76,7 +77,7 @@ impl Hints {
         self.counts[block] = self.counts[block].saturating_add(1);
     }
 
-    /// Returns whether some states of `block` are hit and some are not.
+    /// Returns whether `block` contains both a hit state and a state that is not hit.
     pub fn is_cut(&self, block: usize) -> bool
         requires { block < vec_len self.now.sizes }
     {
@@ -116,8 +117,8 @@ impl Hints {
         Ok(())
     }
 
-    /// Records that the hit states of `block` are now in the block `twin`. Returns the larger and
-    /// the smaller of the two blocks.
+    /// Records that the hit states of `block` are now in the block `twin`. Returns the larger of
+    /// the two blocks, followed by the smaller.
     fn divide(&mut self, block: usize, twin: usize) -> (usize, usize)
         requires block_in { block < vec_len self.old.sizes }
         requires twin_in { twin < vec_len self.old.sizes }
@@ -138,8 +139,8 @@ impl Hints {
         }
     }
 
-    /// Returns the first symbol for which `block` is still to be processed, or `None` if no symbol
-    /// is left. `symbol` is the symbol for which the current block is being processed.
+    /// Returns the first symbol for which `block` is still to be processed, or `None` if there is
+    /// no such symbol. `symbol` is the symbol for which the current block is being processed.
     fn symbol_left(&self, block: usize, symbol: usize) -> Option<usize>
         requires { block < vec_len self.now.sizes }
     {
@@ -152,10 +153,9 @@ impl Hints {
         None
     }
 
-    /// Records that the hit states of `block` are now in the block `twin`, and that the two parts
-    /// are to be processed: the smaller part for all symbols, and the larger part for the symbols
-    /// that were left for `block`. `symbol` is the symbol for which the current block is being
-    /// processed.
+    /// Records that the hit states of `block` are now in the block `twin`. The smaller of the two
+    /// blocks is then to be processed for all symbols, and the larger for the symbols that were
+    /// left for `block`. `symbol` is the symbol for which the current block is being processed.
     ///
     /// # Errors
     ///

@@ -1,5 +1,5 @@
 //! Splits blocks by the blocks to which their states lead. `merge` calls `refine` with the blocks
-//! of states with equal marks, and again after each block that it splits itself.
+//! of states with equal marks, and again after each split that `merge` makes itself.
 
 ghost use Rattle.std.specs.Prelude.{true, ◌≡◌, ◌≢◌, ℕ, ◌+◌, ◌<◌, ◌≤◌, ◌↔◌, Some, OnSome, OnOk, IfOk, IsTrue, length, vec_len, slice_index, option_map};
 ghost use Rattle.logos_reduce.specs.Views.{has, has_in, ArePredecessors, AreFiled, AreSources, AreHits, target_by, target_block, IsSound, IsFiner, size, to};
@@ -34,8 +34,8 @@ fn add_all(sources: &mut Vec<usize>, lists: &Vec<Vec<usize>>, t: usize) -> Resul
     Ok(())
 }
 
-/// Returns at least all states with an edge into the block `b`, possibly with duplicates. `from`
-/// contains the predecessors of each state.
+/// Returns a list that contains all states with an edge into the block `b`. The list can contain
+/// duplicates and other states. `from` contains the predecessors of each state.
 fn all_sources(
     alloc: Global,
     parts: &Refinement,
@@ -68,8 +68,9 @@ fn without_repeats(alloc: Global, list: &Vec<usize>) -> Result<Vec<usize>, Alloc
     Ok(once)
 }
 
-/// Returns at least all states with an edge into the block `b`, in ascending order and without
-/// duplicates. `from` contains the predecessors of each state.
+/// Returns a list that contains all states with an edge into the block `b`, in ascending order and
+/// without duplicates. The list can contain other states. `from` contains the predecessors of each
+/// state.
 fn sources_of(
     alloc: Global,
     parts: &Refinement,
@@ -99,8 +100,8 @@ fn leads_into(table: &Table, blocks: &Vec<usize>, s: usize, b: usize, k: usize) 
     s < table.len() && block_of(table.target(s, k), blocks) == Some(b)
 }
 
-/// A block by which other blocks are split, with its sources and the symbols of the edges into it.
-/// The sources include all states with an edge into the block.
+/// A block by which other blocks are split. The sources of the block include all states with an
+/// edge into the block, and its symbols are the symbols of these edges.
 #[derive(Drop)]
 struct Splitter {
     block: usize,
@@ -134,7 +135,7 @@ fn hits_of(
 }
 
 /// Splits each block by whether its states lead into the block of `by` on the symbol `k`. Splits
-/// nothing if `by` does not use this symbol.
+/// nothing if `k` is not among the symbols of `by`.
 fn split_by_symbol(
     alloc: Global,
     table: &Table,
@@ -171,8 +172,8 @@ fn split_by_symbol(
     Ok(split)
 }
 
-/// Returns the symbols on which some state leads into the block `b`. `symbols` contains, for each
-/// state, the symbols on which some state leads to it.
+/// Returns the symbols on which a state leads into the block `b`. `symbols` contains, for each
+/// state, the symbols on which a state leads to it.
 fn symbols_into(parts: &Refinement, symbols: &Vec<Symbols>, b: usize) -> Symbols
     requires { b < vec_len parts.now.cuts.splits }
 {
@@ -186,7 +187,8 @@ fn symbols_into(parts: &Refinement, symbols: &Vec<Symbols>, b: usize) -> Symbols
 }
 
 /// Splits each block by whether its states lead into the block of `by`, symbol by symbol. Stops
-/// early if the block of `by` is split itself, because its parts are then still to be processed.
+/// early if the block of `by` is split itself, because both resulting blocks are then still to be
+/// processed.
 fn split_by_block(
     alloc: Global,
     table: &Table,
@@ -291,7 +293,7 @@ fn start(alloc: Global, blocks: Blocks, room: usize) -> Result<Refinement, Alloc
 struct Edges {
     /// For each state, the states that lead to it.
     from: Vec<Vec<usize>>,
-    /// For each state, the symbols on which some state leads to it.
+    /// For each state, the symbols on which a state leads to it.
     symbols: Vec<Symbols>,
 }
 
@@ -327,7 +329,7 @@ fn look_at(
     split_by_block(alloc, table, parts, &by)
 }
 
-/// Splits the blocks by each block that is still to be processed.
+/// Splits the blocks by each block that is still to be processed, until there is no such block.
 fn look_at_all(
     alloc: Global,
     table: &Table,

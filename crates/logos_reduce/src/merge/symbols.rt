@@ -1,5 +1,5 @@
-//! Sets of symbols. `refine` stores, for each state, the set of symbols on which some state leads
-//! to it. No proof about blocks depends on these sets.
+//! Contains sets of symbols. `refine` stores, for each state, the set of the symbols on which a
+//! state leads to it. No proof about blocks depends on these sets.
 
 ghost use Rattle.std.specs.Prelude.{◌<◌, ◌≤◌};
 
@@ -26,8 +26,8 @@ impl Symbols {
         (self.words[k / 64] >> (k % 64)) & 1 == 1
     }
 
-    /// Returns a number greater than `k` such that no symbol of the set lies strictly between the
-    /// two. The number can exceed the last symbol.
+    /// Returns a number greater than `k` such that no symbol of the set lies strictly between `k`
+    /// and the number. The number can exceed the last symbol.
     pub fn after(&self, k: usize) -> usize
         requires { k < WIDTH }
         ensures { k < result }
@@ -86,7 +86,7 @@ fn note_symbols(symbols: &mut Vec<Symbols>, row: &Row) {
     }
 }
 
-/// Returns, for each state, the symbols on which some state leads to it.
+/// Returns, for each state, the symbols on which a state leads to it.
 ///
 /// # Errors
 ///

@@ -21,7 +21,7 @@ pub struct Filing {
     pub lists: Vec<Vec<usize>>,
 }
 
-/// The cuts that have been made. Each cut divided a block in two.
+/// The cuts that have been made. Each cut divided a block into two blocks.
 #[derive(Drop)]
 pub struct Cuts {
     /// For each block, the block to which its hit states last moved, or 0 if no state has moved.
@@ -58,9 +58,9 @@ fn homes_of(
     Ok(homes)
 }
 
-/// Adds a new block for the hit states of `block` if some but not all of its states are hit on
-/// `symbol`, and if this cut has not added the new block yet. The new blocks of this cut have
-/// numbers from `fresh` on.
+/// Adds a new block for the hit states of `block`. Does nothing if all or none of the states of
+/// `block` are hit on `symbol`, or if this cut has already added the new block. The new blocks of
+/// this cut have numbers from `fresh` on.
 fn add_twin(cuts: &mut Cuts, fresh: usize, block: usize, symbol: usize) -> Result<(), AllocError>
     requires room { vec_len cuts.old.twins ≡ vec_len cuts.old.hints.sizes }
     requires fits { vec_len cuts.old.splits ≤ vec_len cuts.old.twins }
@@ -90,7 +90,8 @@ fn add_twin(cuts: &mut Cuts, fresh: usize, block: usize, symbol: usize) -> Resul
     Ok(())
 }
 
-/// Adds a new block for each block in `homes` of which some but not all states are hit on `symbol`.
+/// Adds a new block for each block in `homes` that contains both states that are hit on `symbol`
+/// and states that are not.
 fn add_twins(cuts: &mut Cuts, homes: &Vec<usize>, symbol: usize) -> Result<(), AllocError>
     requires room { vec_len cuts.old.twins ≡ vec_len cuts.old.hints.sizes }
     requires fits { vec_len cuts.old.splits ≤ vec_len cuts.old.twins }
@@ -146,8 +147,8 @@ fn move_to(filing: &mut Filing, s: usize, block: usize) -> Result<(), AllocError
     Ok(())
 }
 
-/// Moves the hit state `s` to the new block that was split off its block, if there is one. The new
-/// blocks have numbers from `fresh` on.
+/// Moves the hit state `s` to the new block that was split off the block of `s`. Does nothing if
+/// there is no such new block. The new blocks have numbers from `fresh` on.
 fn move_hit(
     filing: &mut Filing,
     twins: &Vec<usize>,
@@ -179,8 +180,9 @@ fn move_hit(
     move_to(filing, s, twin)
 }
 
-/// Moves each state in `hits`, the list of all hit states, to the new block that was split off its
-/// block, if there is one. The new blocks have numbers from `fresh` on.
+/// Moves each state in `hits`, the list of all hit states, to the new block that was split off the
+/// block of the state. A state remains in its block if there is no such new block. The new blocks
+/// have numbers from `fresh` on.
 fn move_hits(
     filing: &mut Filing,
     twins: &Vec<usize>,
@@ -222,8 +224,8 @@ pub struct Refinement {
         filing.lists.items },
 }
 
-/// Cuts each block into its states in `hits` and its other states. `hits` contains states that lead
-/// into one block on `symbol`.
+/// Cuts each block into its states in `hits` and its other states. `hits` contains the states that
+/// lead into one block on `symbol`.
 ///
 /// # Errors
 ///

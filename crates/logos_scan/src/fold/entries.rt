@@ -70,8 +70,8 @@ fn step_at(code: &Code, state: usize, byte: u8) -> Step
     step_of(code.entry(WIDTH * state, byte))
 }
 
-/// Returns the row offset of the state after the byte, or `None` if it is not known that the byte
-/// continues the attempt.
+/// Returns the row offset of the state after the byte. Returns `None` unless it is known that the
+/// byte continues the attempt.
 fn row_start_after(code: &Code, state: usize, byte: u8) -> Option<usize>
     requires few { IsFew code.now }
     requires sound { IsSound code.now }
@@ -86,7 +86,8 @@ fn row_start_after(code: &Code, state: usize, byte: u8) -> Option<usize>
     }
 }
 
-/// Returns the row offset of the state to which the byte leads, or `None` if it leads nowhere.
+/// Returns the row offset of the state to which the byte leads, or `None` if the byte leads to no
+/// state.
 fn row_start_of_target(code: &Code, state: usize, byte: u8) -> Option<usize>
     requires few { IsFew code.now }
     requires sound { IsSound code.now }
@@ -100,7 +101,7 @@ fn row_start_of_target(code: &Code, state: usize, byte: u8) -> Option<usize>
     }
 }
 
-/// Returns the flags of an entry before whose byte a match of this use ends.
+/// Returns the flags of an entry before whose byte a match with the use `used` ends.
 fn flags(used: MatchUse) -> u32
     ensures { result ≡ flags_of used }
 {
@@ -111,8 +112,8 @@ fn flags(used: MatchUse) -> u32
     }
 }
 
-/// Returns the entry of a byte before which a match of this leaf and use ends. `row_start` is the
-/// row offset of the next attempt's state after the byte.
+/// Returns the entry of a byte before which a match of `leaf` with the use `used` ends. `row_start`
+/// is the row offset of the next attempt's state after the byte.
 fn ended(leaf: LeafId, used: MatchUse, row_start: usize) -> u32
     requires leaf { leaf.0 < LEAVES_NAMED }
     requires row_start { row_start < ENTRIES }

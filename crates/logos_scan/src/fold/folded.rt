@@ -1,4 +1,5 @@
-//! Folds the rows of a code. Called by `choice` for each input that is long enough.
+//! Folds the rows of a code. `choice` calls `Folded::new` for each input that is not too short for
+//! a scan.
 
 ghost use Rattle.std.specs.Prelude.{◌≡◌, IfOk, IfSome, None, length};
 ghost use Rattle.logos_scan.specs.fold.Imports.{AreFolded, IsFew, IsMany};
@@ -31,8 +32,8 @@ impl<'c, 's> Model for Folded<'c, 's> {
 }
 
 impl<'c, 's> Folded<'c, 's> {
-    /// Returns the code with its folded rows, or `None` if it has more states than folded entries
-    /// can represent: more than 3,855.
+    /// Returns the code with its folded rows. Returns `None` if the code has more than 3,855
+    /// states, which folded entries cannot represent.
     ///
     /// # Errors
     ///

@@ -1,29 +1,29 @@
-//! Divides match attempts into sections, and predicts the sections. Called by `trial` for each
-//! entry.
+//! Divides match attempts into sections, and predicts the sections. `trial` calls the methods of
+//! `Section` and `Predictor` for each entry.
 //!
 //! A section ends where a fast loop or an attempt ends. In sections with equal codes, a lexer takes
 //! equal branches. A processor predicts a branch from the preceding branches, so repeated sequences
-//! of sections take less time than new ones.
+//! of sections take less time than new sequences.
 
 use crate::walk::{OFFSET_MASK, TOKEN};
 
 /// The number of bytes that a fast loop tests at once.
 const NEAR: u32 = 16;
 
-/// The greatest number of entered states that codes distinguish.
+/// The maximum number of entered states that codes distinguish.
 const MOST_ENTERED: u32 = 7;
 
 /// The multiplier of hashes: 2 to the power of 32, divided by the golden ratio.
 const SPREADING: u32 = 0x9E37_79B1;
 
-/// A section of an attempt, up to some byte.
+/// A section of an attempt, up to but not including the next byte.
 #[derive(Clone, Copy, Drop)]
 pub(crate) struct Section {
-    /// The row before the byte.
+    /// The row before the next byte.
     row_start: u32,
-    /// The number of bytes of the section that led to another row.
+    /// The number of consecutive bytes of the section that led to another row.
     entered: u32,
-    /// The number of bytes after these that did not change the row.
+    /// The number of subsequent bytes that did not change the row.
     stayed: u32,
 }
 
@@ -91,8 +91,8 @@ impl Section {
     }
 }
 
-/// A predictor of the codes of sections. For each hash of eight consecutive codes, it stores the
-/// code that followed them the last time, or 0 if no code is known.
+/// A predictor of the codes of sections. For each hash of eight consecutive codes, the predictor
+/// stores the code that last followed these codes, or 0 if no code is known.
 #[derive(Drop)]
 pub(crate) struct Predictor {
     codes: [u32; 1024],

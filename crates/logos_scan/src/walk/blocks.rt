@@ -7,8 +7,8 @@ use crate::walk::guess::guess_row_starts;
 use crate::walk::repair::{Stretch, repair};
 use crate::walk::step;
 
-/// The number of blocks of a chunk. The blocks are walked over in parallel, since each step depends
-/// on the preceding step, so that a single walk would leave the processor partly idle.
+/// The number of blocks of a chunk. The blocks are walked over in parallel. Each step of a walk
+/// depends on the preceding step, so a single walk would leave the processor partly idle.
 pub const BLOCKS: usize = 6;
 
 /// The number of bytes of a block.
@@ -37,7 +37,7 @@ fn column(rows: &[u32], text: &[u8], row_starts: &mut [usize; 6], trace: &mut [u
     }
 }
 
-/// Steps over the blocks in turns, each from its row in `row_starts` on. Writes the entries into
+/// Steps over the blocks alternately, each from its row in `row_starts` on. Writes the entries into
 /// `trace`, and replaces each row by the row after the block. Called out of line, so that all
 /// registers are available to the function.
 #[inline(never)]
@@ -57,8 +57,9 @@ fn walk_blocks(rows: &[u32], text: &[u8], row_starts: &mut [usize; 6], trace: &m
 }
 
 /// Steps over a chunk from the row `row_start` on. Writes the entries of its bytes into `trace`,
-/// and returns the row after the chunk. The rows in which all blocks but the first begin are
-/// guessed with the row `root` of new attempts. A block is repaired if its guess was wrong.
+/// and returns the row after the chunk. The rows in which the blocks after the first begin are
+/// guessed, with `root` as the row in which new attempts begin. A block is repaired if its row was
+/// guessed wrongly.
 pub fn walk_chunk(
     rows: &[u32],
     text: &[u8],

@@ -1,5 +1,5 @@
-//! Finds the pending entries of a chunk by the flags of its entries. Used by `run`, which iterates
-//! over these entries.
+//! Finds the pending entries of a chunk by the flags of its entries. `run` iterates over the
+//! pending entries with a `ChunkCursor`.
 
 ghost use Rattle.std.specs.Prelude.{◌≡◌, ◌<◌, ◌+◌, ◌*◌, MatchOption};
 ghost use Rattle.logos_scan.specs.walk.Views.{HasRoom, Finds, Finishes, IsInWord, IsMarked, Passes, IsAt, start_at, start_by, start_of};
@@ -8,9 +8,9 @@ use crate::walk::blocks::CHUNK;
 use crate::walk::masks::ChunkEntries;
 
 /// A point of a scan in a chunk: before the entry `from`, in a word of flags. `tokens` contains the
-/// flags of the pending entries in the word that have not been passed, and `ends` contains the
+/// flags of those pending entries in the word that have not been passed, and `ends` contains the
 /// flags of the ends of matches in the word. The last end before an entry is computed only when it
-/// is requested, so that `next` changes only the flags that it passes.
+/// is requested, so `next` changes only the flags that it passes.
 #[derive(Clone, Copy, Drop)]
 pub struct ChunkCursor {
     /// The offset of the chunk in the input, in bytes.
@@ -99,7 +99,7 @@ impl ChunkCursor {
     }
 
     /// Returns the cursor in the first word that has a pending entry left, from the current word
-    /// on, or in the last word if no word has one.
+    /// on, or in the last word if no pending entry is left.
     #[inline(always)]
     fn filled(self, chunk: &ChunkEntries) -> ChunkCursor
         requires marked { IsMarked chunk.now }

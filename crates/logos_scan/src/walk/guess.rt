@@ -6,7 +6,7 @@ ghost use Rattle.logos_scan.specs.walk.Views.{IsClosed, IsRowStart, AreRowStarts
 use crate::walk::blocks::{BLOCK, BLOCKS, CHUNK};
 use crate::walk::{OFFSET_MASK, entry_of};
 
-/// The number of bytes before a block that a guess examines.
+/// The number of bytes that are examined before a block to guess its row.
 const WINDOW: usize = 48;
 
 /// Returns the row after a byte: the root after a line end, and otherwise the row to which the byte
@@ -40,10 +40,10 @@ fn step_before(rows: &[u32], text: &[u8], root: usize, row_starts: &mut [usize; 
 }
 
 /// Returns guesses of the rows in which blocks begin. For the first block, the guess is the root.
-/// For any other block, it is the row to which the examined bytes before the block lead from the
-/// root. If these bytes contain a line end, only the bytes after the last line end count. Any guess
-/// is correct, and a good guess saves time. All guesses are made in parallel, as blocks are walked
-/// over.
+/// For any other block, the guess is the row to which the examined bytes before the block lead from
+/// the root. If these bytes contain a line end, only the bytes after the last line end count. A
+/// wrong guess costs time, but does not change the result of a walk. All guesses are made in
+/// parallel.
 #[inline(always)]
 pub fn guess_row_starts(rows: &[u32], text: &[u8], root: usize) -> [usize; 6]
     requires closed { IsClosed rows.now }

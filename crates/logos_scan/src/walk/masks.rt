@@ -10,8 +10,8 @@ use std::simd::prelude::*;
 /// The number of words of flags of a chunk.
 const WORDS: usize = CHUNK / 64;
 
-/// The entries of a chunk, with a bit for each of the flags `ENDED` and `TOKEN` of an entry, 64
-/// bits in a word.
+/// The entries of a chunk, and their flags `ENDED` and `TOKEN` in words of 64 bits, one bit for
+/// each entry.
 #[derive(Drop)]
 pub struct ChunkEntries {
     pub entries: [u32; 4608],
@@ -26,7 +26,7 @@ const ENDED_TOP: u8 = (ENDED >> 24) as u8;
 const TOKEN_TOP: u8 = (TOKEN >> 24) as u8;
 
 /// Returns the highest bytes of the 16 entries from `at` on. The bytes are selected from all bytes
-/// of the entries, since the compiler needs more instructions for a shift.
+/// of the entries, because the compiler needs more instructions for a shift.
 #[inline(always)]
 fn tops_of_16(trace: &[u32], at: usize) -> u8x16
     requires { at + 16 ≤ length trace.now }
@@ -102,8 +102,7 @@ impl ChunkEntries {
         }
     }
 
-    /// Computes words of flags from the entries: the words from the index `from` up to but not
-    /// including `to`.
+    /// Computes from the entries the words of flags at the indices `from..to`.
     pub fn mark(&mut self, from: usize, to: usize)
         requires order { from ≤ to }
         requires within { to ≤ 72 }

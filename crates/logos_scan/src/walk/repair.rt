@@ -1,5 +1,5 @@
-//! Repairs a walk that began in a wrong row by steps over its bytes from the right row on. Called
-//! by `blocks` and `run`.
+//! Repairs a walk that began in a wrong row: steps over the bytes again, from the right row on.
+//! Called by `blocks` and `run`.
 
 ghost use Rattle.std.specs.Prelude.{◌≡◌, ◌<◌, ◌≤◌, length};
 ghost use Rattle.logos_scan.specs.walk.Views.{IsClosed, IsRowStart, IsSameBeside, Walked, HoldsStretch, IsRepaired};
@@ -16,7 +16,7 @@ pub struct Stretch {
     pub end: usize,
 }
 
-/// The result of `repair`.
+/// The result of `repair`: the row after the stretch, and the extent of the repair.
 #[derive(Clone, Copy, Drop)]
 pub struct Repaired {
     /// The row after the last byte of the stretch.

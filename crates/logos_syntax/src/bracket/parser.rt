@@ -30,8 +30,8 @@ fn after_braces(text: &[char]) -> &[char] {
     }
 }
 
-/// Returns the stop for the fault `fault` of the token at the front of `rest`, where `rest` is the
-/// text that remains to be read.
+/// Returns the stop for `fault`, the fault of the token at the front of `rest`. `rest` is the text
+/// that remains to be read.
 pub(crate) fn stop_for(flags: Flags, fault: Fault, rest: &[char]) -> Stop
     ensures { IsStopOf fault result }
 {
@@ -63,8 +63,11 @@ fn property_kind(flags: Flags, kind: Kind) -> Kind {
 ///
 /// # Errors
 ///
-/// Returns the first fault from the left, `LimitPatternNesting` if the bracket is nested too
-/// deeply, or `Memory` if memory runs out.
+/// Returns:
+///
+/// - the first fault of the text, from left to right;
+/// - `LimitPatternNesting` if the bracket is nested too deeply;
+/// - `Memory` if memory runs out.
 fn read_inside(
     alloc: Global,
     flags: Flags,
@@ -102,8 +105,11 @@ fn read_inside(
 ///
 /// # Errors
 ///
-/// Returns the first fault from the left, `LimitPatternNesting` if the bracket is nested too
-/// deeply, or `Memory` if memory runs out.
+/// Returns:
+///
+/// - the first fault of the text, from left to right;
+/// - `LimitPatternNesting` if the bracket is nested too deeply;
+/// - `Memory` if memory runs out.
 pub(crate) fn read_bracket(
     alloc: Global,
     flags: Flags,

@@ -1,5 +1,5 @@
-//! The stack of open brackets. It computes the set of each bracket while the bracket is read. The
-//! reader of brackets adds each token to the stack.
+//! Defines the stack of open brackets. The stack computes the set of each bracket while the bracket
+//! is read. The reader of brackets adds each token to the stack.
 
 ghost use Rattle.std.specs.Prelude.{◌≡◌, ◌+◌, ◌≤◌, ◌<◌, [], IfOk, OnOk, MatchBool, vec_len, length};
 ghost use Rattle.logos_syntax.specs.Imports.{pattern_nesting, pairs, members};
@@ -14,11 +14,11 @@ use logos_pattern_tokens::token::Flags;
 use std::alloc::{AllocError, Global};
 use std::mem;
 
-/// The greatest number of groups, brackets and repetitions around one point.
+/// The maximum number of groups, brackets and repetitions around one point.
 pub(crate) const MAX_NESTING: usize = 250;
 
-/// The opening of a bracket. `left` is the number of characters from its `[` to the end of the
-/// text.
+/// The opening of a bracket. `left` is the number of characters from the bracket's `[` to the end
+/// of the text.
 #[derive(Clone, Copy)]
 pub(crate) struct BracketOpening {
     pub negated: bool,
@@ -152,7 +152,7 @@ impl Frames {
     }
 
     /// Adds an element to the innermost bracket. `left` is the number of characters from the
-    /// element to the end of the text, and `base` the number of groups around the outermost
+    /// element to the end of the text, and `base` is the number of groups around the outermost
     /// bracket.
     ///
     /// # Errors
@@ -232,7 +232,7 @@ impl Frames {
     }
 
     /// Closes the innermost bracket, and adds its set to the bracket around it. `left` is the
-    /// number of characters from the `]` to the end of the text, and `base` the number of groups
+    /// number of characters from the `]` to the end of the text, and `base` is the number of groups
     /// around the outermost bracket.
     ///
     /// # Errors
@@ -257,13 +257,16 @@ impl Frames {
     }
 
     /// Adds the next token to the innermost bracket, or opens or closes a bracket. `left` is the
-    /// number of characters from the token to the end of the text, and `base` the number of groups
-    /// around the outermost bracket.
+    /// number of characters from the token to the end of the text, and `base` is the number of
+    /// groups around the outermost bracket.
     ///
     /// # Errors
     ///
-    /// Returns the fault of the token if it is not allowed after the preceding tokens,
-    /// `LimitPatternNesting` if it is nested too deeply, or `Memory` if memory runs out.
+    /// Returns:
+    ///
+    /// - the fault of the token if the token is not allowed after the preceding tokens;
+    /// - `LimitPatternNesting` if the token is nested too deeply;
+    /// - `Memory` if memory runs out.
     pub(crate) fn step(
         &mut self,
         alloc: Global,

@@ -5,7 +5,7 @@
 use crate::token::Span;
 use logos_lexeme::lexeme::LexicalKind;
 
-/// The data of a fault in typed form, in addition to its code, its message and its spans.
+/// Typed data of a fault, in addition to the fault's code, message and spans.
 #[derive(Clone, Copy, Debug)]
 pub enum Detail {
     /// No detail.
@@ -14,7 +14,7 @@ pub enum Detail {
     Lexical(LexicalKind),
     /// The kind, the byte offset and the origin of a fault in a pattern.
     Pattern(PatternDetail),
-    /// An unknown argument of the option `error`, not of a pattern.
+    /// An unknown argument that belongs to the option `error` rather than to a pattern.
     ErrorArgument,
     /// A leaf of an ambiguous set. Such a set consists of leaves that have the same priority and
     /// match the same bytes. The faults of a set are neighbors in the list of faults, in the order
@@ -31,14 +31,15 @@ pub enum Detail {
 #[derive(Clone, Copy, Debug)]
 pub struct PatternDetail {
     pub kind: PatternKind,
-    /// The byte offset of the fault in the text of the pattern, with all subpatterns substituted.
+    /// The byte offset of the fault in the text of the pattern after all subpatterns have been
+    /// substituted.
     pub at: usize,
     /// The first four bytes of the pattern's text from `at` on.
     pub front: PatternFront,
     pub origin: ByteOrigin,
 }
 
-/// Four bytes of a text, from an offset on. Bytes after the end of the text are 0.
+/// Four consecutive bytes of a text. Bytes past the end of the text are 0.
 #[derive(Clone, Copy, Debug)]
 pub struct PatternFront {
     pub first: u8,
@@ -54,11 +55,11 @@ pub struct ByteOrigin {
     /// belongs to a substituted subpattern or to the group around the text of a subpattern.
     pub own: Option<usize>,
     /// The span of the name in the definition of the first subpattern that was substituted before
-    /// the byte, or `None` if there is no such subpattern.
+    /// the byte or contains the byte, or `None` if there is no such subpattern.
     pub put_in: Option<Span>,
 }
 
-/// The kind of a fault in a pattern, under the name that `logos_pattern` uses.
+/// The kind of a fault in a pattern. The variants have the names that `logos_pattern` uses.
 #[derive(Clone, Copy, Debug)]
 pub enum PatternKind {
     /// A group, a bracket or a brace that is still open at the end of the text.

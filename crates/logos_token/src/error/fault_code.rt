@@ -5,7 +5,7 @@ ghost use Rattle.logos_token.specs.ViewImports.{name_of};
 
 use std::fmt;
 
-/// The kind of a fault in a source. It is printed as the name of the variant.
+/// The kind of a fault in a source. A code is printed as the name of its variant.
 #[derive(Clone, Copy, PartialEq, Eq)]
 pub enum FaultCode {
     /// A point at which the source cannot be cut into tokens.
@@ -161,7 +161,7 @@ pub enum FaultCode {
     Previous,
 }
 
-/// The names of the codes, in the order of `FaultCode`.
+/// The names of the codes, in the order of the variants of `FaultCode`.
 const NAMES: [&str; 75] = [
     "Lexical",
     "NotAnEnum",

@@ -1,5 +1,5 @@
-//! Renders faults as Rust text that reports them when it is compiled. `logos_codegen` prints this
-//! text instead of a lexer if a source has faults.
+//! Functions that render faults as Rust text. The compiler reports the faults when it compiles the
+//! text. `logos_codegen` prints this text instead of a lexer if a source has faults.
 
 ghost use Rattle.std.specs.Prelude.{◌≡◌, ◌++◌, OnOk, string_bytes, IfOk, option_map};
 ghost use Rattle.logos_token.specs.ViewImports.{flat_map, faults_of, fault_of, rendered_fault, rendered};
@@ -18,7 +18,7 @@ fn push_fault(text: &mut String, fault: &SpannedError) -> Result<(), Memory>
     Ok(())
 }
 
-/// Appends a `compile_error!` with the message of each fault to `text`, in order.
+/// Appends a `compile_error!` with the message of each fault to `text`, in the order of the faults.
 fn push_faults(text: &mut String, faults: &[SpannedError]) -> Result<(), Memory>
     ensures { OnOk result
         (string_bytes text.new ≡
@@ -31,9 +31,9 @@ fn push_faults(text: &mut String, faults: &[SpannedError]) -> Result<(), Memory>
 }
 
 impl Errors {
-    /// Returns the text of a function that does not compile, followed by `unimplemented!()`. The
-    /// compile errors of the function are the messages of the faults. Returns `None` if the list is
-    /// empty.
+    /// Returns the text of a function that does not compile, and of an `unimplemented!()` after the
+    /// function. The compile errors of the function are the messages of the faults. Returns `None`
+    /// if the list is empty.
     ///
     /// # Errors
     ///

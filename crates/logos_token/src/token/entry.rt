@@ -1,4 +1,4 @@
-//! The entries of a token buffer. `reader` and `views::growing` append them, and `views` reads
+//! The entries of a token buffer. `reader` and `views::growing` append entries, and `views` reads
 //! them.
 
 use crate::token::{Delimiter, Doc, Ident, Literal, Punct, Span};

@@ -1,4 +1,5 @@
-//! Prints tokens as Rust text. The printers of callbacks, types and stripped enums call `print`.
+//! Functions that print tokens as Rust text. The printers of callbacks, types and stripped enums
+//! call `print`.
 
 ghost use Rattle.std.specs.Prelude.{◌≡◌, ◌<◌, ◌∷◌, [], List, ℕ, IsUtf8, IfOk, IfSome, MatchOption, string_bytes, codes, if◌then◌else◌, OnOk};
 ghost use Rattle.logos_token.specs.ViewImports.{SpellsAgain, IsRunOf, EndsJoint, Spells, TokenList, none, opening_text, closing_text, gap_after, is_line_comment, printed, encode_utf8, print_part, tokens_of, printed_of, PrintsOn, LeavesFewer, tree_of, PrintsTree};
@@ -7,10 +8,10 @@ use crate::error::Memory;
 use crate::token::{Delimiter, Group, Spacing, TokenTree, Tokens};
 use std::alloc::Global;
 
-/// A printer of lexemes: the text so far, and the gap to print before the next lexeme.
+/// A printer of lexemes, with the text printed so far and the gap to print before the next lexeme.
 #[derive(Drop)]
 pub struct Printer {
-    /// The lexemes printed so far.
+    /// The lexemes printed so far, with the gaps between them.
     text: String,
     /// The gap to print before the next lexeme.
     gap: &'static str,
@@ -159,8 +160,8 @@ fn leave<'t, 's>(
     Ok(Some(group.rest))
 }
 
-/// Prints the first tree of `rest`, or closes a group if `rest` is empty. Returns the trees to
-/// print next, or `None` if all trees have been printed.
+/// Prints the first tree of `rest`, or closes the innermost open group if `rest` is empty. Returns
+/// the trees to print next, or `None` if all trees have been printed.
 fn step<'t, 's>(
     printer: &mut Printer,
     outer: &mut Vec<Outer<'t, 's>>,

@@ -1,4 +1,5 @@
-//! Reads a source text into tokens. Every crate that reads a source calls `tokenize` first.
+//! The function `tokenize`, which reads a source text into tokens. Every crate that reads a source
+//! calls this function first.
 
 ghost use Rattle.std.specs.Prelude.{◌≡◌, ℕ, ◌<◌, ◌≤◌, ◌↔◌, List, [], ◌∷◌, ◌++◌, map, length, IfOk, IfErr, OnOk, MatchResult, IsTrue};
 ghost use Rattle.logos_token.specs.ViewImports.{source_limit, delimiter_limit, IsCharBoundary, IsNext, TokenList, depth_of, Spells, RunOccurs, Memory, value_of, stream_tokens, IsRead, ReadsOn, RefusesAt, SpellsAtEnd, RefusesAtEnd, IsRefusal, SpellsNothing, IsErrOf};
@@ -61,8 +62,8 @@ fn is_partner(opening: Delimiter, closing: Delimiter) -> bool
     opening == closing
 }
 
-/// Appends the entry of a group to `entries` and the group to `open_groups`. `span` is the span of
-/// the group's opening delimiter. Returns `LimitTokenNesting` if 128 groups are open.
+/// Appends the entry of a group to `entries`, and the group to `open_groups`. `span` is the span of
+/// the group's opening delimiter. Returns `LimitTokenNesting` if 128 groups are already open.
 fn begin_group(
     entries: &mut Vec<Entry<'_>>,
     open_groups: &mut Vec<OpenGroup>,
@@ -90,9 +91,9 @@ fn begin_group(
     Ok(())
 }
 
-/// Ends the innermost open group at the closing delimiter at `span`, and sets the span and the size
-/// of the group's entry. Returns `Unbalanced` at `span` if no group is open or the delimiters
-/// differ.
+/// Ends the innermost open group at the closing delimiter with the span `span`, and sets the span
+/// and the size of the group's entry. Returns `Unbalanced` at `span` if no group is open or the
+/// delimiters differ.
 fn end_group(
     entries: &mut Vec<Entry<'_>>,
     open_groups: &mut Vec<OpenGroup>,
@@ -138,7 +139,7 @@ fn push<'s>(entries: &mut Vec<Entry<'s>>, entry: Entry<'s>) -> Result<(), TokenE
 }
 
 /// Adds the lexeme of the kind `kind` at `span` of `source` to `entries`, and opens or ends a group
-/// if the lexeme is a delimiter. A gap adds nothing.
+/// if the lexeme is a delimiter. Adds nothing for a gap.
 fn add<'s>(
     entries: &mut Vec<Entry<'s>>,
     open_groups: &mut Vec<OpenGroup>,
@@ -209,14 +210,13 @@ fn finish<'s>(
 ///
 /// # Errors
 ///
-/// Returns `LimitSource` if the source is longer than 16,777,216 bytes. The source is then not
-/// read.
+/// Returns:
 ///
-/// Returns `Lexical` with the first fault from the left. A delimiter that is never closed counts as
-/// a fault at the end of the source.
-///
-/// Returns `LimitTokenNesting` at the first opening delimiter at which more than 128 delimiters are
-/// open, and `Memory` if memory runs out.
+/// - `LimitSource` if the source is longer than 16,777,216 bytes. The source is then not read.
+/// - `Lexical` with the first fault from the left. A delimiter that is never closed counts as a
+///   fault at the end of the source.
+/// - `LimitTokenNesting` at the first opening delimiter at which more than 128 delimiters are open.
+/// - `Memory` if memory runs out.
 pub fn tokenize<'s>(alloc: Global, src: &'s str) -> Result<TokenStream<'s>, TokenError>
     ensures ok { IfOk result (λ stream. Spells src.now (stream_tokens stream)) }
     ensures shallow { IfOk result (λ stream. depth_of (stream_tokens stream) ≤ delimiter_limit) }
@@ -251,8 +251,8 @@ pub fn spells_once()
         Spells bytes tokens → Spells bytes other → tokens ≡ other }
 {}
 
-/// The tokens that a source spells occur in the source in order. The text of each token is the text
-/// of the source at the token's span.
+/// The tokens that a source spells occur in the source in the same order. The text of each token is
+/// the text of the source at the token's span.
 pub fn spelled_in_order()
     ensures { (bytes : List ℕ) (tokens : TokenList) →
         Spells bytes tokens → RunOccurs bytes 0 tokens (length bytes) }

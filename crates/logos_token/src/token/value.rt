@@ -1,5 +1,5 @@
-//! Reads the values of string and byte string literals. The readers of definitions, subpatterns and
-//! options call it for each literal.
+//! Functions that read the values of string and byte string literals. The readers of definitions,
+//! subpatterns and options call them for each literal.
 
 ghost use Rattle.std.specs.Prelude.{◌≡◌, ℕ, ◌+◌, ◌<◌, ◌≤◌, ◌++◌, ◌⊎◌, ◌==◌, ◌&&◌, ◌||◌, List, length, slice_index, slice_range, string_bytes, option_map, IfOk, OnOk, MatchOption};
 ghost use Rattle.logos_token.specs.ViewImports.{IsCharBoundary, Holds, bytes_of, IsRest, IsAdded, IsAscii, IsValue, IsHeld, held, held_value};
@@ -21,8 +21,8 @@ pub enum LiteralValue {
     Bytes(Vec<u8>),
 }
 
-/// Returns whether `byte` begins a piece of a string's contents that does not represent the byte
-/// itself. `escapes` is `false` for a raw string.
+/// Returns whether `byte` is CR, or a backslash in a string with escapes. `escapes` is `false` for
+/// a raw string.
 fn is_special(escapes: bool, byte: u8) -> bool
     ensures { result ≡ ((byte == 13) || (escapes && (byte == 92))) }
 {
@@ -48,7 +48,7 @@ fn plain_end(source: &str, escapes: bool, from: usize, to: usize) -> usize
     end
 }
 
-/// Appends the value of a piece to the text `value`.
+/// Appends the value of `piece` to the text `value`.
 fn push_text(value: &mut String, piece: Piece) -> Result<(), AllocError>
     requires { IsAscii piece }
     ensures { OnOk result (string_bytes value.new ≡ string_bytes value.old ++ bytes_of piece) }
@@ -60,9 +60,9 @@ fn push_text(value: &mut String, piece: Piece) -> Result<(), AllocError>
     }
 }
 
-/// Appends the next part of a string's contents to `value`: the bytes from `at` on that represent
-/// themselves or, if there are none, the value of the piece at `at`. Returns the byte offset after
-/// this part. Returns `None` if no piece begins at `at`.
+/// Appends the value of the next bytes of a string's contents to `value`. The next bytes are the
+/// bytes from `at` on that represent themselves or, if there are none, the escape or CR LF at `at`.
+/// Returns the byte offset after these bytes, or `None` if the contents are malformed at `at`.
 fn add_text(
     value: &mut String,
     source: &str,
@@ -91,7 +91,7 @@ fn add_text(
 }
 
 /// Returns the text of a string whose contents are the bytes from `from` to `to` of `source`.
-/// `escapes` is `false` for a raw string. Returns `None` if the contents do not consist of pieces.
+/// `escapes` is `false` for a raw string. Returns `None` if the contents are malformed.
 fn text_between(
     alloc: Global,
     source: &str,
@@ -119,7 +119,7 @@ fn text_between(
     Ok(Some(value))
 }
 
-/// Appends the bytes of a piece's value to `value`.
+/// Appends the bytes of the value of `piece` to `value`.
 fn push_bytes(value: &mut Vec<u8>, piece: Piece) -> Result<(), AllocError>
     ensures { OnOk result (value.new.items ≡ value.old.items ++ bytes_of piece) }
 {
@@ -134,8 +134,7 @@ fn push_bytes(value: &mut Vec<u8>, piece: Piece) -> Result<(), AllocError>
 }
 
 /// Returns the bytes of a byte string whose contents are the bytes from `from` to `to` of `source`.
-/// `escapes` is `false` for a raw byte string. Returns `None` if the contents do not consist of
-/// pieces.
+/// `escapes` is `false` for a raw byte string. Returns `None` if the contents are malformed.
 fn bytes_between(
     alloc: Global,
     source: &str,
@@ -219,9 +218,9 @@ fn string_value(alloc: Global, text: &str) -> Result<Option<LiteralValue>, Alloc
 }
 
 impl Literal<'_> {
-    /// Returns the text of a string or the bytes of a byte string. Escapes are replaced by their
-    /// values, each CR LF becomes LF, and the suffix is left out. Returns `None` if the literal is
-    /// neither a string nor a byte string, or is malformed.
+    /// Returns the value of a literal: the text of a string, or the bytes of a byte string. Escapes
+    /// are replaced by their values, each CR LF becomes LF, and the suffix is left out. Returns
+    /// `None` if the literal is neither a string nor a byte string, or is malformed.
     ///
     /// # Errors
     ///

@@ -1,5 +1,4 @@
-//! Flat token buffers, and views of runs of their tokens. All crates that read tokens use this
-//! module.
+//! Token buffers, and runs of the tokens in a buffer. All crates that read tokens use this module.
 
 ghost use Rattle.logos_token.specs.Imports.{props};
 ghost use Rattle.logos_token.specs.Flat.{IsFlat};
@@ -11,14 +10,14 @@ use crate::token::entry::Entry;
 use crate::token::{Delimiter, Doc, Ident, Literal, Punct, Span};
 use std::alloc::{AllocError, Global};
 
-/// Tokens that own their buffer: the tokens of a whole source, or a run that was copied or built.
+/// A buffer of tokens: the tokens of a whole source, or tokens that were copied or built.
 #[derive(Drop)]
 pub struct TokenStream<'s> {
     entries: Vec<Entry<'s>>,
     ghost nested: { IsFlat entries.items } by { Prim.hlevel props },
 }
 
-/// A view of a run of neighboring token trees in a buffer.
+/// A borrowed run of neighboring token trees in a buffer.
 #[derive(Clone, Copy)]
 pub struct Tokens<'t, 's> {
     entries: &'t [Entry<'s>],
@@ -143,7 +142,7 @@ impl<'t, 's> Tokens<'t, 's> {
         }
     }
 
-    /// Returns the trees after the first one. The rest of an empty run is empty.
+    /// Returns the trees after the first tree, or an empty run if this run is empty.
     pub fn rest(self) -> Tokens<'t, 's>
         ensures { tokens_of result ≡ rest_of (tokens_of self.entry) }
     {
@@ -155,7 +154,7 @@ impl<'t, 's> Tokens<'t, 's> {
         }
     }
 
-    /// Returns the trees of this run before `rest`, where `rest` must be a suffix of this run.
+    /// Returns the trees of this run before `rest`. `rest` must be a suffix of this run.
     pub fn before(self, rest: Tokens<'t, 's>) -> Tokens<'t, 's>
         requires { IsRestOf (tokens_of self) (tokens_of rest) }
         ensures { (split : IsRestOf (tokens_of self.entry) (tokens_of rest.entry)) →

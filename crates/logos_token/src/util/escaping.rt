@@ -1,4 +1,5 @@
-//! Escapes texts for string literals. `Errors::render` and `logos_attribute` call it.
+//! Functions that escape texts for string literals. `Errors::render` and `logos_attribute` call
+//! them.
 
 ghost use Rattle.std.specs.Prelude.{◌≡◌, ◌++◌, OnOk, string_bytes};
 ghost use Rattle.logos_token.specs.Imports.{escaped_character, escaped};

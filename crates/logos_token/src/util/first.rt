@@ -1,12 +1,12 @@
-//! Compares the first tokens of a run, and returns the tokens after them. The readers of enums,
-//! `logos_strip` and `logos_rust_file` call it.
+//! Functions that test the first tokens of a run, or return the tokens after them. The readers of
+//! enums, `logos_strip` and `logos_rust_file` call these functions.
 
 ghost use Rattle.std.specs.Prelude.{◌≡◌, None, Some, MatchOption};
 ghost use Rattle.logos_token.specs.ViewImports.{begins_with, after_word, is_path_mark, after_colon, after_path_mark, tokens_of};
 
 use crate::token::{Punct, Spacing, TokenTree, Tokens};
 
-/// Returns whether the run `tokens` begins with the punctuation `mark`, joint or alone.
+/// Returns whether the run `tokens` begins with the punctuation `mark`, with either spacing.
 pub fn begins_with(mark: char, tokens: Tokens<'_, '_>) -> bool
     ensures { result ≡ begins_with mark (tokens_of tokens.entry) }
 {
@@ -37,7 +37,8 @@ pub fn is_path_mark(punct: Punct) -> bool
     }
 }
 
-/// Returns the tokens after a `:`, joint or alone, or `None` if the run does not begin with `:`.
+/// Returns the tokens after a `:` with either spacing, or `None` if the run does not begin with
+/// `:`.
 fn after_colon<'t, 's>(tokens: Tokens<'t, 's>) -> Option<Tokens<'t, 's>>
     ensures { MatchOption result (after_colon (tokens_of tokens.entry) ≡ None)
         (λ rest. after_colon (tokens_of tokens.entry) ≡ Some (tokens_of rest)) }

@@ -17,8 +17,8 @@ fn target(lists: &[Vec<usize>], node: usize, edge: usize) -> Option<usize>
     Some(*to)
 }
 
-/// Returns whether `node` is its own root, or its edge at the index `membership.toward` leads to a
-/// node of the same component with a lower `to_rank`.
+/// Returns whether `node` is the root of its component, or the edge of `node` at the index
+/// `membership.toward` leads to a node of the same component with a lower `to_rank`.
 fn goes_toward(
     lists: &[Vec<usize>],
     memberships: &[Membership],
@@ -42,9 +42,9 @@ fn goes_toward(
     other.to_rank < membership.to_rank
 }
 
-/// Returns whether `node` is its own root, or the edge at the index `membership.edge` of the node
-/// `membership.from` leads to `node`. In the second case, `membership.from` must be in the same
-/// component and have a lower `from_rank`.
+/// Returns whether `node` is the root of its component, or the edge at the index `membership.edge`
+/// of the node `membership.from` leads to `node`. In the second case, `membership.from` must be in
+/// the same component and have a lower `from_rank`.
 fn comes_from(
     lists: &[Vec<usize>],
     memberships: &[Membership],
@@ -152,7 +152,7 @@ fn has_inner(memberships: &[Membership], root: usize, targets: &[usize]) -> bool
 }
 
 /// Returns whether `node` lies on a cycle. A node lies on a cycle if and only if one of its edges
-/// leads to a node of its own component.
+/// leads to a node of the same component.
 fn mark(lists: &[Vec<usize>], memberships: &[Membership], node: usize) -> bool
     requires within { node < length lists.now }
     requires evidence { IsEvidence (graph lists.now) memberships.now }

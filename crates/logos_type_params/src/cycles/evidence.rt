@@ -15,9 +15,10 @@ use std::alloc::{AllocError, Global};
 pub(crate) struct Membership {
     /// The node that identifies the component.
     pub(crate) root: usize,
-    /// The number of the component. Edges between components lead to greater numbers.
+    /// The number of the component. Edges between components lead to components with greater
+    /// numbers.
     pub(crate) order: usize,
-    /// The index of the node's edge that leads closer to the root.
+    /// The index of the node's edge on a path to the root of the component.
     pub(crate) toward: usize,
     /// An upper bound for the distance from the node to the root along the edges `toward`. The
     /// bound decreases along each of these edges.

@@ -1,4 +1,4 @@
-//! Finds the nodes that lie on a cycle by traversing the graph from each node. `on_cycles` calls
+//! Traverses a graph from each node to find the nodes that lie on a cycle. `on_cycles` calls
 //! `marks` if the check fails.
 
 ghost use Rattle.std.specs.Prelude.{◌≡◌, ℕ, ◌<◌, ◌↔◌, [], ◌∷◌, true, false, IfOk, OnOk, IsTrue, Contains, length, vec_len, slice_index_or};
@@ -42,7 +42,7 @@ fn add_all(traversal: &mut Traversal, targets: &[usize]) -> Result<(), AllocErro
     Ok(())
 }
 
-/// Adds the nodes to which the edges of `from` lead to the found nodes.
+/// Adds the targets of the edges of `from` to the found nodes.
 fn add_targets(
     lists: &[Vec<usize>],
     from: usize,

@@ -83,8 +83,8 @@ fn add_or_report<'s>(
     Ok(())
 }
 
-/// Returns copies of the types given to the declared names, in order, and reports each name without
-/// a type. A second declaration of a name counts as a name without a type.
+/// Returns copies of the types given to the declared names, in the order of `names`, and reports
+/// each name without a type. A second declaration of a name counts as a name without a type.
 fn copy_types<'s>(
     names: &[Ident<'s>],
     types: &GivenTypes<'s>,

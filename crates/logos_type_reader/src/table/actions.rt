@@ -1,5 +1,5 @@
-//! Turns an action into the next step, which contains the tokens that the action takes. `table`
-//! calls `act` for each action.
+//! Turns table entries into steps. A step contains the tokens that its table entry takes. `table`
+//! calls `act` for each table entry.
 
 ghost use Rattle.std.specs.Prelude.{◌≡◌, Ok};
 ghost use Rattle.logos_type_reader.specs.Views.{tokens_of, inside_of, sign_of, opens, closes, keeps, to, outside_of, spot_of, IsFirst, IsStep, lead_sign, after_lead, opens_first, opens_type, acts, begun};
@@ -100,8 +100,8 @@ fn close<'t, 's>(delimiter: Delimiter, stage: Stage, outside: Outside<'t, 's>) -
     TypeStep::Take(TypeToken::Close(delimiter), after)
 }
 
-/// Returns the step that takes all tokens of the run without reading types in them, and continues
-/// at `stage` without tokens.
+/// Returns the step that takes all tokens of the run without reading types in these tokens, and
+/// continues at `stage` at the end of the run.
 fn keep<'t, 's>(stage: Stage, run: Tokens<'t, 's>, outside: Outside<'t, 's>) -> TypeStep<'t, 's>
     ensures { IsStep (Ok result)
         (keeps (tokens_of run.entry) (to stage none (outside_of outside.entry))) }
@@ -131,8 +131,8 @@ fn after<'t, 's>(
     }
 }
 
-/// Returns the next step for an action and the tokens at the spot, or a mismatch if a group cannot
-/// be opened.
+/// Returns the next step for the table entry `action` and the tokens at the spot, or a mismatch if
+/// a group cannot be opened.
 pub(super) fn act<'t, 's>(
     action: TableEntry,
     run: Tokens<'t, 's>,
@@ -179,9 +179,9 @@ fn open_type<'t, 's>(stage: Stage, run: Tokens<'t, 's>) -> Result<Beginning<'t, 
     })
 }
 
-/// Returns the beginning of the type at the start of `run`, according to `start`: the first token
-/// and the spot after this token. Returns a mismatch if `start` opens a group and `run` does not
-/// begin with a group.
+/// Returns the beginning of the type at the start of `run`: the first token, which `start`
+/// determines, and the spot after this token. Returns a mismatch if `start` opens a group and `run`
+/// does not begin with a group.
 pub(super) fn begin_by<'t, 's>(
     start: FirstEntry,
     run: Tokens<'t, 's>,

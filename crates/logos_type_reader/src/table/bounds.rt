@@ -1,5 +1,5 @@
-//! Determines the actions at the stages inside bounds and `for<..>`. `table` calls the function for
-//! the stage of a spot.
+//! Determines the table entries for the stages inside bounds and `for<..>`. `table` calls the
+//! function for the stage of a spot.
 
 ghost use Rattle.std.specs.Prelude.{◌≡◌};
 ghost use Rattle.logos_type_reader.specs.Views.{rest_of, tokens_of, after_bound, bound_lifetime_move, trait_move, question_move, bound_move, bound_end_move, further_move, enclosed_end_move, after_for, for_move, for_lifetime_move, for_list_move, for_end_move, path_move, OfBound, outside_of, spot_of, IsAction};
@@ -21,8 +21,8 @@ fn after_bound(kind: BoundKind) -> Stage
     }
 }
 
-/// Returns the action at `'` where a bound is expected, or a mismatch if no name follows. `+` can
-/// join another bound if `plus` is `true`.
+/// Returns the table entry for a spot before `'` where a bound is expected, or a mismatch if no
+/// name follows. `+` can join another bound if `plus` is `true`.
 fn bound_lifetime_step(plus: bool, at: &Spot<'_, '_>) -> Next
     ensures { IsAction result (spot_of at.now)
         (bound_lifetime_move plus (rest_of (tokens_of at.now.run)) (outside_of at.now.outside)) }
@@ -33,8 +33,8 @@ fn bound_lifetime_step(plus: bool, at: &Spot<'_, '_>) -> Next
     }
 }
 
-/// Returns the action where the path of a bound is expected, with an optional `for<..>` before it.
-/// Returns a mismatch if neither a path nor `for<..>` follows.
+/// Returns the table entry for a spot where an optional `for<..>` and the path of a bound are
+/// expected. Returns a mismatch if neither a path nor `for<..>` follows.
 pub(super) fn trait_step(kind: BoundKind, at: &Spot<'_, '_>) -> Next
     ensures { IsAction result (spot_of at.now)
         (trait_move kind (tokens_of at.now.run) (outside_of at.now.outside)) }
@@ -47,7 +47,8 @@ pub(super) fn trait_step(kind: BoundKind, at: &Spot<'_, '_>) -> Next
     }
 }
 
-/// Returns the action after the `for<..>` of a bound, or a mismatch if no path follows.
+/// Returns the table entry for a spot after the `for<..>` of a bound, or a mismatch if no path
+/// follows.
 pub(super) fn trait_path_step(kind: BoundKind, at: &Spot<'_, '_>) -> Next
     ensures { IsAction result (spot_of at.now)
         (path_move OfBound (after_bound kind) (tokens_of at.now.run)) }
@@ -55,8 +56,8 @@ pub(super) fn trait_path_step(kind: BoundKind, at: &Spot<'_, '_>) -> Next
     path_step(PathKind::OfBound, after_bound(kind), at)
 }
 
-/// Returns the action where a `?` is allowed before the path of a bound, or a mismatch if no bound
-/// follows.
+/// Returns the table entry for a spot before the path of a bound where a `?` is allowed, or a
+/// mismatch if no bound follows.
 pub(super) fn question_step(kind: BoundKind, at: &Spot<'_, '_>) -> Next
     ensures { IsAction result (spot_of at.now)
         (question_move kind (tokens_of at.now.run) (outside_of at.now.outside)) }
@@ -67,8 +68,8 @@ pub(super) fn question_step(kind: BoundKind, at: &Spot<'_, '_>) -> Next
     }
 }
 
-/// Returns the action where a bound is expected, or a mismatch if no bound follows. `+` can join
-/// another bound if `plus` is `true`.
+/// Returns the table entry for a spot where a bound is expected, or a mismatch if no bound follows.
+/// `+` can join another bound if `plus` is `true`.
 pub(super) fn bound_step(plus: bool, at: &Spot<'_, '_>) -> Next
     ensures { IsAction result (spot_of at.now)
         (bound_move plus (tokens_of at.now.run) (outside_of at.now.outside)) }
@@ -80,8 +81,8 @@ pub(super) fn bound_step(plus: bool, at: &Spot<'_, '_>) -> Next
     }
 }
 
-/// Returns the action after a bound: `+` if a `+` follows and `plus` is `true`, and the end of the
-/// bounds otherwise.
+/// Returns the table entry for a spot after a bound. The entry takes a `+` if a `+` follows and
+/// `plus` is `true`, and otherwise ends the bounds.
 pub(super) fn bound_end_step(plus: bool, at: &Spot<'_, '_>) -> Next
     ensures { IsAction result (spot_of at.now)
         (bound_end_move plus (tokens_of at.now.run) (outside_of at.now.outside)) }
@@ -94,8 +95,8 @@ pub(super) fn bound_end_step(plus: bool, at: &Spot<'_, '_>) -> Next
     }
 }
 
-/// Returns the action after a `+` that follows a bound: the action of another bound, or the end of
-/// the bounds.
+/// Returns the table entry for a spot after a `+` that follows a bound. The entry begins another
+/// bound if a bound follows, and otherwise ends the bounds.
 pub(super) fn further_step(at: &Spot<'_, '_>) -> Next
     ensures { IsAction result (spot_of at.now)
         (further_move (tokens_of at.now.run) (outside_of at.now.outside)) }
@@ -106,8 +107,8 @@ pub(super) fn further_step(at: &Spot<'_, '_>) -> Next
     Ok(TableEntry::End)
 }
 
-/// Returns the action after a path in the parentheses of a bound, or a mismatch if a token follows.
-/// After the parentheses, `+` can join another bound if `plus` is `true`.
+/// Returns the table entry for a spot after a path in the parentheses of a bound, or a mismatch if
+/// a token follows. After the parentheses, `+` can join another bound if `plus` is `true`.
 pub(super) fn enclosed_end_step(plus: bool, at: &Spot<'_, '_>) -> Next
     ensures { IsAction result (spot_of at.now)
         (enclosed_end_move plus (tokens_of at.now.run) (outside_of at.now.outside)) }
@@ -128,7 +129,7 @@ fn after_for(binder: Binder) -> Stage
     }
 }
 
-/// Returns the action after `for`, or a mismatch if no `<` follows.
+/// Returns the table entry for a spot after `for`, or a mismatch if no `<` follows.
 pub(super) fn for_step(binder: Binder, at: &Spot<'_, '_>) -> Next
     ensures { IsAction result (spot_of at.now)
         (for_move binder (tokens_of at.now.run) (outside_of at.now.outside)) }
@@ -141,7 +142,7 @@ pub(super) fn for_step(binder: Binder, at: &Spot<'_, '_>) -> Next
     }
 }
 
-/// Returns the action at `'` in `for<..>`, or a mismatch if no name follows.
+/// Returns the table entry for a spot before `'` in `for<..>`, or a mismatch if no name follows.
 fn for_lifetime_step(binder: Binder, at: &Spot<'_, '_>) -> Next
     ensures { IsAction result (spot_of at.now)
         (for_lifetime_move binder (rest_of (tokens_of at.now.run)) (outside_of at.now.outside)) }
@@ -152,8 +153,8 @@ fn for_lifetime_step(binder: Binder, at: &Spot<'_, '_>) -> Next
     }
 }
 
-/// Returns the action in `for<..>` where a lifetime is allowed, or a mismatch if neither a lifetime
-/// nor `>` follows.
+/// Returns the table entry for a spot in `for<..>` where a lifetime is allowed, or a mismatch if
+/// neither a lifetime nor `>` follows.
 pub(super) fn for_list_step(binder: Binder, at: &Spot<'_, '_>) -> Next
     ensures { IsAction result (spot_of at.now)
         (for_list_move binder (tokens_of at.now.run) (outside_of at.now.outside)) }
@@ -165,8 +166,8 @@ pub(super) fn for_list_step(binder: Binder, at: &Spot<'_, '_>) -> Next
     }
 }
 
-/// Returns the action after a lifetime in `for<..>`, or a mismatch if neither a comma nor `>`
-/// follows.
+/// Returns the table entry for a spot after a lifetime in `for<..>`, or a mismatch if neither a
+/// comma nor `>` follows.
 pub(super) fn for_end_step(binder: Binder, at: &Spot<'_, '_>) -> Next
     ensures { IsAction result (spot_of at.now)
         (for_end_move binder (tokens_of at.now.run) (outside_of at.now.outside)) }

@@ -1,5 +1,5 @@
-//! Determines the actions at the stages inside function types. `table` calls the function for the
-//! stage of a spot.
+//! Determines the table entries for the stages inside function types. `table` calls the function
+//! for the stage of a spot.
 
 ghost use Rattle.logos_type_reader.specs.Views.{tokens_of, linked_move, unsafe_move, qualified_move, extern_move, function_move, taken_value, taken_move, typed_move, one_taken_move, variadic_move, variadic_end_move, outside_of, spot_of, IsAction};
 
@@ -7,7 +7,8 @@ use crate::table::stage::{FrontToken, Next, Prefix, Spot, Stage, TableEntry};
 use crate::table::tokens::{begins_dots, begins_word, is_typing, look, mismatch};
 use logos_token::token::Delimiter;
 
-/// Returns the action after `extern` and its literal, or a mismatch if no `fn` follows.
+/// Returns the table entry for a spot after `extern` and its literal, or a mismatch if no `fn`
+/// follows.
 pub(super) fn linked_step(at: &Spot<'_, '_>) -> Next
     ensures { IsAction result (spot_of at.now)
         (linked_move (tokens_of at.now.run) (outside_of at.now.outside)) }
@@ -21,7 +22,8 @@ pub(super) fn linked_step(at: &Spot<'_, '_>) -> Next
     }
 }
 
-/// Returns the action after `unsafe`, or a mismatch if neither `extern` nor `fn` follows.
+/// Returns the table entry for a spot after `unsafe`, or a mismatch if neither `extern` nor `fn`
+/// follows.
 pub(super) fn unsafe_step(at: &Spot<'_, '_>) -> Next
     ensures { IsAction result (spot_of at.now)
         (unsafe_move (tokens_of at.now.run) (outside_of at.now.outside)) }
@@ -35,8 +37,8 @@ pub(super) fn unsafe_step(at: &Spot<'_, '_>) -> Next
     }
 }
 
-/// Returns the action after the `for<..>` of a function type, or a mismatch if none of `unsafe`,
-/// `extern` and `fn` follows.
+/// Returns the table entry for a spot after the `for<..>` of a function type, or a mismatch if none
+/// of `unsafe`, `extern` and `fn` follows.
 pub(super) fn qualified_step(at: &Spot<'_, '_>) -> Next
     ensures { IsAction result (spot_of at.now)
         (qualified_move (tokens_of at.now.run) (outside_of at.now.outside)) }
@@ -50,7 +52,8 @@ pub(super) fn qualified_step(at: &Spot<'_, '_>) -> Next
     }
 }
 
-/// Returns the action after `extern`, or a mismatch if neither a literal nor `fn` follows.
+/// Returns the table entry for a spot after `extern`, or a mismatch if neither a literal nor `fn`
+/// follows.
 pub(super) fn extern_step(at: &Spot<'_, '_>) -> Next
     ensures { IsAction result (spot_of at.now)
         (extern_move (tokens_of at.now.run) (outside_of at.now.outside)) }
@@ -61,7 +64,7 @@ pub(super) fn extern_step(at: &Spot<'_, '_>) -> Next
     }
 }
 
-/// Returns the action after `fn`, or a mismatch if no parentheses follow.
+/// Returns the table entry for a spot after `fn`, or a mismatch if no parentheses follow.
 pub(super) fn function_step(at: &Spot<'_, '_>) -> Next
     ensures { IsAction result (spot_of at.now)
         (function_move (tokens_of at.now.run) (outside_of at.now.outside)) }
@@ -72,7 +75,7 @@ pub(super) fn function_step(at: &Spot<'_, '_>) -> Next
     }
 }
 
-/// Returns the action where the type of a parameter or `...` is expected.
+/// Returns the table entry for a spot where the type of a parameter or `...` is expected.
 pub(super) fn taken_value_step(at: &Spot<'_, '_>) -> Next
     ensures { IsAction result (spot_of at.now)
         (taken_value (tokens_of at.now.run) (outside_of at.now.outside)) }
@@ -83,8 +86,8 @@ pub(super) fn taken_value_step(at: &Spot<'_, '_>) -> Next
     Ok(TableEntry::Need(true, Stage::OneTaken))
 }
 
-/// Returns the action where a parameter of a function is allowed: the end of the parameters, the
-/// name of a parameter, its type, or `...`.
+/// Returns the table entry for a spot where a parameter of a function is allowed. The entry ends
+/// the parameters, takes the name of a parameter, takes `...`, or reads the type of a parameter.
 pub(super) fn taken_step(at: &Spot<'_, '_>) -> Next
     ensures { IsAction result (spot_of at.now)
         (taken_move (tokens_of at.now.run) (outside_of at.now.outside)) }
@@ -99,7 +102,8 @@ pub(super) fn taken_step(at: &Spot<'_, '_>) -> Next
     }
 }
 
-/// Returns the action between the name of a parameter and `:`, or a mismatch if no `:` follows.
+/// Returns the table entry for a spot between the name of a parameter and `:`, or a mismatch if no
+/// `:` follows.
 pub(super) fn typed_step(at: &Spot<'_, '_>) -> Next
     ensures { IsAction result (spot_of at.now)
         (typed_move (tokens_of at.now.run) (outside_of at.now.outside)) }
@@ -110,8 +114,8 @@ pub(super) fn typed_step(at: &Spot<'_, '_>) -> Next
     }
 }
 
-/// Returns the action after a parameter of a function, or a mismatch if neither a comma nor the end
-/// of the parameters follows.
+/// Returns the table entry for a spot after a parameter of a function, or a mismatch if neither a
+/// comma nor the end of the parameters follows.
 pub(super) fn one_taken_step(at: &Spot<'_, '_>) -> Next
     ensures { IsAction result (spot_of at.now)
         (one_taken_move (tokens_of at.now.run) (outside_of at.now.outside)) }
@@ -123,8 +127,8 @@ pub(super) fn one_taken_step(at: &Spot<'_, '_>) -> Next
     }
 }
 
-/// Returns the action after `...`, or a mismatch if neither a comma nor the end of the parameters
-/// follows.
+/// Returns the table entry for a spot after `...`, or a mismatch if neither a comma nor the end of
+/// the parameters follows.
 pub(super) fn variadic_step(at: &Spot<'_, '_>) -> Next
     ensures { IsAction result (spot_of at.now)
         (variadic_move (tokens_of at.now.run) (outside_of at.now.outside)) }
@@ -136,7 +140,8 @@ pub(super) fn variadic_step(at: &Spot<'_, '_>) -> Next
     }
 }
 
-/// Returns the action after the `,` that follows `...`, or a mismatch if a token follows.
+/// Returns the table entry for a spot after the `,` that follows `...`, or a mismatch if a token
+/// follows.
 pub(super) fn variadic_end_step(at: &Spot<'_, '_>) -> Next
     ensures { IsAction result (spot_of at.now)
         (variadic_end_move (tokens_of at.now.run) (outside_of at.now.outside)) }

@@ -1,4 +1,4 @@
-//! Determines the actions at the stages inside references, pointers, groups, and `<T as P>`.
+//! Determines the table entries for the stages inside references, pointers, groups, and `<T as P>`.
 //! `table` calls the function for the stage of a spot.
 
 ghost use Rattle.logos_type_reader.specs.Views.{tokens_of, referent_move, pointer_move, list_move, list_end_move, element_end_move, length_move, self_end_move, self_trait_end_move, self_closed_move, outside_of, spot_of, IsAction};
@@ -7,7 +7,7 @@ use crate::table::stage::{FrontToken, Next, PathKind, Prefix, Spot, Stage, Table
 use crate::table::tokens::{begins_colons, begins_word, look, mismatch};
 use logos_token::token::Delimiter;
 
-/// Returns the action after the `&` of a reference and its optional lifetime.
+/// Returns the table entry for a spot after the `&` and the optional lifetime of a reference.
 pub(super) fn referent_step(at: &Spot<'_, '_>) -> Next
     ensures { IsAction result (spot_of at.now)
         (referent_move (tokens_of at.now.run) (outside_of at.now.outside)) }
@@ -21,8 +21,8 @@ pub(super) fn referent_step(at: &Spot<'_, '_>) -> Next
     }
 }
 
-/// Returns the action after the `*` of a pointer, or a mismatch if neither `const` nor `mut`
-/// follows.
+/// Returns the table entry for a spot after the `*` of a pointer, or a mismatch if neither `const`
+/// nor `mut` follows.
 pub(super) fn pointer_step(at: &Spot<'_, '_>) -> Next
     ensures { IsAction result (spot_of at.now)
         (pointer_move (tokens_of at.now.run) (outside_of at.now.outside)) }
@@ -35,7 +35,8 @@ pub(super) fn pointer_step(at: &Spot<'_, '_>) -> Next
     }
 }
 
-/// Returns the action in parentheses where a type is allowed: the end of the group, or a type.
+/// Returns the table entry for a spot in parentheses where a type is allowed. The entry ends the
+/// group if no tokens are left, and otherwise reads a type.
 pub(super) fn tuple_step(at: &Spot<'_, '_>) -> Next
     ensures { IsAction result (spot_of at.now)
         (list_move (tokens_of at.now.run) (outside_of at.now.outside)) }
@@ -46,8 +47,8 @@ pub(super) fn tuple_step(at: &Spot<'_, '_>) -> Next
     }
 }
 
-/// Returns the action after a type in parentheses, or a mismatch if neither a comma nor the end of
-/// the group follows.
+/// Returns the table entry for a spot after a type in parentheses, or a mismatch if neither a comma
+/// nor the end of the group follows.
 pub(super) fn tuple_end_step(at: &Spot<'_, '_>) -> Next
     ensures { IsAction result (spot_of at.now)
         (list_end_move (tokens_of at.now.run) (outside_of at.now.outside)) }
@@ -59,8 +60,8 @@ pub(super) fn tuple_end_step(at: &Spot<'_, '_>) -> Next
     }
 }
 
-/// Returns the action after a type in brackets, or a mismatch if neither `;` nor the end of the
-/// group follows.
+/// Returns the table entry for a spot after a type in brackets, or a mismatch if neither `;` nor
+/// the end of the group follows.
 pub(super) fn element_end_step(at: &Spot<'_, '_>) -> Next
     ensures { IsAction result (spot_of at.now)
         (element_end_move (tokens_of at.now.run) (outside_of at.now.outside)) }
@@ -72,7 +73,8 @@ pub(super) fn element_end_step(at: &Spot<'_, '_>) -> Next
     }
 }
 
-/// Returns the action after the `;` of an array, or a mismatch if no length follows.
+/// Returns the table entry for a spot after the `;` of an array, or a mismatch if no length
+/// follows.
 pub(super) fn length_step(at: &Spot<'_, '_>) -> Next
     ensures { IsAction result (spot_of at.now)
         (length_move (tokens_of at.now.run) (outside_of at.now.outside)) }
@@ -83,8 +85,8 @@ pub(super) fn length_step(at: &Spot<'_, '_>) -> Next
     }
 }
 
-/// Returns the action after the type that follows `<`, or a mismatch if neither `as` nor `>`
-/// follows.
+/// Returns the table entry for a spot after the type that follows `<`, or a mismatch if neither
+/// `as` nor `>` follows.
 pub(super) fn self_end_step(at: &Spot<'_, '_>) -> Next
     ensures { IsAction result (spot_of at.now)
         (self_end_move (tokens_of at.now.run) (outside_of at.now.outside)) }
@@ -99,7 +101,8 @@ pub(super) fn self_end_step(at: &Spot<'_, '_>) -> Next
     }
 }
 
-/// Returns the action after the path that follows `as`, or a mismatch if no `>` follows.
+/// Returns the table entry for a spot after the path that follows `as`, or a mismatch if no `>`
+/// follows.
 pub(super) fn self_trait_end_step(at: &Spot<'_, '_>) -> Next
     ensures { IsAction result (spot_of at.now)
         (self_trait_end_move (tokens_of at.now.run) (outside_of at.now.outside)) }
@@ -110,7 +113,8 @@ pub(super) fn self_trait_end_step(at: &Spot<'_, '_>) -> Next
     }
 }
 
-/// Returns the action after the `>` of `<T as P>`, or a mismatch if no `::` follows.
+/// Returns the table entry for a spot after the `>` of `<T as P>`, or a mismatch if no `::`
+/// follows.
 pub(super) fn self_closed_step(at: &Spot<'_, '_>) -> Next
     ensures { IsAction result (spot_of at.now)
         (self_closed_move (tokens_of at.now.run) (outside_of at.now.outside)) }

@@ -57,8 +57,8 @@ fn word_stage(plus: bool, text: &str) -> Stage
     Stage::Named(PathKind::Plain)
 }
 
-/// Returns the beginning of a type that begins with a word, or a fault if the word is `_`, which is
-/// unsupported. `+` joins bounds only if `plus` is `true`.
+/// Returns the beginning of a type that begins with a word. Returns a fault if the word is `_`,
+/// because this type is unsupported. `+` joins bounds only if `plus` is `true`.
 fn word_first(plus: bool, run: Tokens<'_, '_>) -> First
     ensures { IsStart result (tokens_of run.entry)
         (word_first plus (first_text (tokens_of run.entry)) (first_span (tokens_of run.entry))
@@ -90,8 +90,9 @@ fn mark_first(mark: char, run: Tokens<'_, '_>) -> First
     }
 }
 
-/// Returns the beginning of the type at the start of the run, without its tokens, or the fault if
-/// no supported type begins. `+` joins bounds only if `plus` is `true`.
+/// Returns the beginning of the type at the start of the run, without the tokens of this beginning.
+/// Returns the fault if the run does not begin with a supported type. `+` joins bounds only if
+/// `plus` is `true`.
 #[tactic(auto, unfolding(crate::specs::Table::begin))]
 fn start_at(plus: bool, run: Tokens<'_, '_>) -> First
     ensures { IsStart result (tokens_of run.entry) (begin plus (tokens_of run.entry)) }
@@ -105,8 +106,9 @@ fn start_at(plus: bool, run: Tokens<'_, '_>) -> First
     }
 }
 
-/// Returns the first token of the type at the start of the run and the spot after this token, or
-/// the fault if no supported type begins. `+` joins bounds only if `plus` is `true`.
+/// Returns the first token of the type at the start of the run and the spot after this token.
+/// Returns the fault if the run does not begin with a supported type. `+` joins bounds only if
+/// `plus` is `true`.
 pub(crate) fn begin<'t, 's>(plus: bool, run: Tokens<'t, 's>) -> Result<Beginning<'t, 's>, StepFault>
     ensures { IsFirst result (begin plus (tokens_of run.entry)) }
 {
@@ -124,8 +126,8 @@ fn is_reserved(text: &str) -> bool
         | (((text == "fn") | (text == "unsafe")) | (text == "extern"))
 }
 
-/// Returns the name at the start of `tokens` and the tokens after it if the type that begins there
-/// is only a name, and `None` otherwise.
+/// Returns the name at the start of `tokens` and the tokens after the name. Returns `None` if no
+/// type begins at this point, or if the type is more than a name.
 pub(crate) fn read_name<'t, 's>(tokens: Tokens<'t, 's>) -> Option<(&'s str, Tokens<'t, 's>)>
     ensures { MatchOption result (name_of (tokens_of tokens.entry) ≡ None)
         (λ read. (name_of (tokens_of tokens.entry) ≡ Some read.0.now)

@@ -1,4 +1,4 @@
-//! Determines the actions at the stages inside paths and their arguments. `table` calls the
+//! Determines the table entries for the stages inside paths and their arguments. `table` calls the
 //! function for the stage of a spot.
 
 ghost use Rattle.std.specs.Prelude.{◌≡◌};
@@ -20,7 +20,8 @@ fn argued(kind: PathKind) -> PathKind
     }
 }
 
-/// Returns the action after the last name of a path: the `!` of a macro, or the end of the path.
+/// Returns the table entry for a spot after the last name of a path. The entry takes the `!` of a
+/// macro, or ends the path.
 fn name_end(kind: PathKind, at: &Spot<'_, '_>) -> Next
     ensures { IsAction result (spot_of at.now)
         (name_end kind (tokens_of at.now.run) (outside_of at.now.outside)) }
@@ -34,7 +35,8 @@ fn name_end(kind: PathKind, at: &Spot<'_, '_>) -> Next
     }
 }
 
-/// Returns the action after the arguments of a name: `::`, or the end of the path.
+/// Returns the table entry for a spot after the arguments of a name. The entry takes a `::`, or
+/// ends the path.
 pub(super) fn segments_step(kind: PathKind, at: &Spot<'_, '_>) -> Next
     ensures { IsAction result (spot_of at.now)
         (segments_move kind (tokens_of at.now.run) (outside_of at.now.outside)) }
@@ -45,7 +47,8 @@ pub(super) fn segments_step(kind: PathKind, at: &Spot<'_, '_>) -> Next
     Ok(TableEntry::End)
 }
 
-/// Returns the action after a name of a path: arguments, `::`, or the action after the last name.
+/// Returns the table entry for a spot after a name of a path. The entry begins the arguments of the
+/// name, takes a `::` or the `!` of a macro, or ends the path.
 pub(super) fn named_step(kind: PathKind, at: &Spot<'_, '_>) -> Next
     ensures { IsAction result (spot_of at.now)
         (named_move kind (tokens_of at.now.run) (outside_of at.now.outside)) }
@@ -62,7 +65,7 @@ pub(super) fn named_step(kind: PathKind, at: &Spot<'_, '_>) -> Next
     }
 }
 
-/// Returns the action after the `!` of a macro, or a mismatch if no group follows.
+/// Returns the table entry for a spot after the `!` of a macro, or a mismatch if no group follows.
 pub(super) fn macro_step(at: &Spot<'_, '_>) -> Next
     ensures { IsAction result (spot_of at.now)
         (macro_move (tokens_of at.now.run) (outside_of at.now.outside)) }
@@ -73,8 +76,8 @@ pub(super) fn macro_step(at: &Spot<'_, '_>) -> Next
     }
 }
 
-/// Returns the action after the parentheses of a path or of a function: `->`, or the end of the
-/// path or function.
+/// Returns the table entry for a spot after the parentheses of a path or of a function. The entry
+/// takes a `->`, or ends the path or the function.
 pub(super) fn output_step(at: &Spot<'_, '_>) -> Next
     ensures { IsAction result (spot_of at.now)
         (output_move (tokens_of at.now.run) (outside_of at.now.outside)) }
@@ -85,8 +88,8 @@ pub(super) fn output_step(at: &Spot<'_, '_>) -> Next
     Ok(TableEntry::End)
 }
 
-/// Returns the action in the parentheses of a path where a type is allowed: the end of the group,
-/// or a type.
+/// Returns the table entry for a spot in the parentheses of a path where a type is allowed. The
+/// entry ends the group if no tokens are left, and otherwise reads a type.
 pub(super) fn inputs_step(at: &Spot<'_, '_>) -> Next
     ensures { IsAction result (spot_of at.now)
         (inputs_move (tokens_of at.now.run) (outside_of at.now.outside)) }
@@ -97,8 +100,8 @@ pub(super) fn inputs_step(at: &Spot<'_, '_>) -> Next
     }
 }
 
-/// Returns the action after a type in the parentheses of a path, or a mismatch if neither a comma
-/// nor the end of the group follows.
+/// Returns the table entry for a spot after a type in the parentheses of a path, or a mismatch if
+/// neither a comma nor the end of the group follows.
 pub(super) fn input_end_step(at: &Spot<'_, '_>) -> Next
     ensures { IsAction result (spot_of at.now)
         (input_end_move (tokens_of at.now.run) (outside_of at.now.outside)) }
@@ -110,8 +113,8 @@ pub(super) fn input_end_step(at: &Spot<'_, '_>) -> Next
     }
 }
 
-/// Returns the action after `::`, or a mismatch if neither a name nor `<` follows. `<` is allowed
-/// only if `arguments` is `true`.
+/// Returns the table entry for a spot after `::`, or a mismatch if neither a name nor `<` follows.
+/// `<` is allowed only if `arguments` is `true`.
 pub(super) fn colons_step(kind: PathKind, arguments: bool, at: &Spot<'_, '_>) -> Next
     ensures { IsAction result (spot_of at.now)
         (colons_move kind arguments (tokens_of at.now.run) (outside_of at.now.outside)) }
@@ -125,7 +128,7 @@ pub(super) fn colons_step(kind: PathKind, arguments: bool, at: &Spot<'_, '_>) ->
     }
 }
 
-/// Returns the action at `'` among arguments, or a mismatch if no name follows.
+/// Returns the table entry for a spot before `'` among arguments, or a mismatch if no name follows.
 fn lifetime_step(kind: PathKind, at: &Spot<'_, '_>) -> Next
     ensures { IsAction result (spot_of at.now)
         (lifetime_move kind (rest_of (tokens_of at.now.run)) (outside_of at.now.outside)) }
@@ -139,8 +142,8 @@ fn lifetime_step(kind: PathKind, at: &Spot<'_, '_>) -> Next
     }
 }
 
-/// Returns the action at a word among the arguments of a path. The word is the name before `=` or
-/// `:`, or it begins a type.
+/// Returns the table entry for a spot before a word among the arguments of a path. The entry takes
+/// the word if `=` or `:` follows the word, and otherwise reads a type.
 fn argument_word(kind: PathKind, at: &Spot<'_, '_>) -> Next
     ensures { IsAction result (spot_of at.now)
         (argument_word kind (first_text (tokens_of at.now.run)) (rest_of (tokens_of at.now.run))
@@ -156,7 +159,8 @@ fn argument_word(kind: PathKind, at: &Spot<'_, '_>) -> Next
     Ok(TableEntry::Need(true, Stage::ArgumentEnd(kind)))
 }
 
-/// Returns the action where an argument of a path is allowed: the closing `>`, or an argument.
+/// Returns the table entry for a spot where an argument of a path is allowed. The entry takes the
+/// closing `>`, or begins an argument.
 pub(super) fn arguments_step(kind: PathKind, at: &Spot<'_, '_>) -> Next
     ensures { IsAction result (spot_of at.now)
         (arguments_move kind (tokens_of at.now.run) (outside_of at.now.outside)) }
@@ -173,8 +177,8 @@ pub(super) fn arguments_step(kind: PathKind, at: &Spot<'_, '_>) -> Next
     }
 }
 
-/// Returns the action inside the braces of an argument: the tokens between the braces, or the end
-/// of the group.
+/// Returns the table entry for a spot inside the braces of an argument. The entry takes the tokens
+/// between the braces, or ends the group if no tokens are left.
 pub(super) fn braced_step(kind: PathKind, at: &Spot<'_, '_>) -> Next
     ensures { IsAction result (spot_of at.now)
         (braced_move kind (tokens_of at.now.run) (outside_of at.now.outside)) }
@@ -185,8 +189,8 @@ pub(super) fn braced_step(kind: PathKind, at: &Spot<'_, '_>) -> Next
     }
 }
 
-/// Returns the action between a name and `=` among the arguments of a path, or a mismatch if no `=`
-/// follows.
+/// Returns the table entry for a spot between a name and `=` among the arguments of a path, or a
+/// mismatch if no `=` follows.
 pub(super) fn equals_step(kind: PathKind, at: &Spot<'_, '_>) -> Next
     ensures { IsAction result (spot_of at.now)
         (equals_move kind (tokens_of at.now.run) (outside_of at.now.outside)) }
@@ -197,8 +201,8 @@ pub(super) fn equals_step(kind: PathKind, at: &Spot<'_, '_>) -> Next
     }
 }
 
-/// Returns the action between a name and `:` among the arguments of a path, or a mismatch if no `:`
-/// follows.
+/// Returns the table entry for a spot between a name and `:` among the arguments of a path, or a
+/// mismatch if no `:` follows.
 pub(super) fn constrained_step(kind: PathKind, at: &Spot<'_, '_>) -> Next
     ensures { IsAction result (spot_of at.now)
         (constrained_move kind (tokens_of at.now.run) (outside_of at.now.outside)) }
@@ -213,7 +217,8 @@ pub(super) fn constrained_step(kind: PathKind, at: &Spot<'_, '_>) -> Next
     }
 }
 
-/// Returns the action after an argument, or a mismatch if neither a comma nor `>` follows.
+/// Returns the table entry for a spot after an argument, or a mismatch if neither a comma nor `>`
+/// follows.
 pub(super) fn argument_end_step(kind: PathKind, at: &Spot<'_, '_>) -> Next
     ensures { IsAction result (spot_of at.now)
         (argument_end_move kind (tokens_of at.now.run) (outside_of at.now.outside)) }
@@ -229,8 +234,8 @@ pub(super) fn argument_end_step(kind: PathKind, at: &Spot<'_, '_>) -> Next
     }
 }
 
-/// Returns the action where a path must begin, or a mismatch if neither a name nor `::` follows.
-/// `next` is the stage after the path.
+/// Returns the table entry for a spot where a path must begin, or a mismatch if neither a name nor
+/// `::` follows. `next` is the stage after the path.
 pub(super) fn path_step(kind: PathKind, next: Stage, at: &Spot<'_, '_>) -> Next
     ensures { IsAction result (spot_of at.now) (path_move kind next (tokens_of at.now.run)) }
 {

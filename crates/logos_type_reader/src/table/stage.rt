@@ -1,13 +1,13 @@
-//! The stages inside a type, and the actions and steps that can follow a stage. All modules of
-//! `table` and the reader of types use these types.
+//! Defines the stages inside a type, and the table entries and steps that can follow a stage. Used
+//! by `reader` and the modules of `table`.
 
 use logos_token::token::{Delimiter, Spacing, Span, Tokens};
 use logos_type::TypeToken;
 
-/// The kind of a path.
+/// The kind of a path: the construct that the path names.
 #[derive(Clone, Copy)]
 pub(crate) enum PathKind {
-    /// A type without arguments so far. Its path can still be the name of a macro.
+    /// A type whose path has no arguments so far, and can still be the name of a macro.
     Plain,
     /// A type, or the trait after `as`.
     OfType,
@@ -15,7 +15,7 @@ pub(crate) enum PathKind {
     OfBound,
 }
 
-/// The kind of a point at which a bound is expected.
+/// The kind of a spot at which a bound is expected: in a list of bounds, or in parentheses.
 #[derive(Clone, Copy)]
 pub(crate) enum BoundKind {
     /// In a list of bounds. `+` can join another bound if the flag is `true`.
@@ -73,7 +73,7 @@ pub(crate) enum Stage {
     SelfTraitEnd,
     /// After the `>` that ends `<T as P>`.
     SelfClosed,
-    /// After `&` and its optional lifetime.
+    /// After the `&` and the optional lifetime of a reference.
     Referent,
     /// After the `*` of a pointer.
     Pointer,
@@ -96,7 +96,7 @@ pub(crate) enum Stage {
     /// After the `(` of a bound. After the matching `)`, `+` can join another bound if the flag is
     /// `true`.
     Question(bool),
-    /// Where the path of a bound is expected, with an optional `for<..>` before it.
+    /// Where an optional `for<..>` and the path of a bound are expected.
     Trait(BoundKind),
     /// After the `for<..>` of a bound.
     TraitPath(BoundKind),
@@ -140,8 +140,8 @@ pub(crate) enum Stage {
 /// The tokens after the open group, if a group is open.
 pub(crate) type Outside<'t, 's> = Option<Tokens<'t, 's>>;
 
-/// A spot inside a type: its stage, the tokens after the spot, and, if the spot is inside a group,
-/// the tokens after the group.
+/// A spot inside a type: its stage and the tokens after the spot. If the spot is inside a group,
+/// also the tokens after the group.
 #[derive(Clone, Copy)]
 pub(crate) struct Spot<'t, 's> {
     pub stage: Stage,
@@ -186,7 +186,7 @@ pub(crate) enum FrontToken {
     Group(Delimiter),
 }
 
-/// The tokens that an action takes from the front of a run.
+/// The tokens that a table entry takes from the front of a run.
 #[derive(Clone, Copy)]
 pub(crate) enum Prefix {
     /// A name.
@@ -214,30 +214,30 @@ pub(crate) enum Prefix {
     Group(Delimiter),
 }
 
-/// The next action at a spot. An action is a step without its tokens, so it is equal for all runs
-/// that begin alike.
+/// An entry of the grammar's table: the next step at a spot, without the tokens of this step. Runs
+/// that begin alike have equal entries.
 #[derive(Clone, Copy)]
 pub(crate) enum TableEntry {
     /// Ends the current construct.
     End,
-    /// Takes these tokens and continues after them at this stage.
+    /// Takes these tokens and continues after the tokens at this stage.
     Take(Prefix, Stage),
-    /// Takes these tokens, which occur only in unsupported types, and continues after them at this
-    /// stage.
+    /// Takes these tokens, which occur only in unsupported types, and continues after the tokens at
+    /// this stage.
     Bar(Prefix, Stage),
-    /// Reads a type and continues after it at this stage. `+` can join bounds if the flag is
+    /// Reads a type and continues after the type at this stage. `+` can join bounds if the flag is
     /// `true`.
     Need(bool, Stage),
-    /// Reads a type that is never replaced and continues after it at this stage.
+    /// Reads a type that is never replaced and continues after the type at this stage.
     KeepType(Stage),
     /// Takes all tokens without reading types in them and continues at this stage.
     Keep(Stage),
     /// Takes these tokens, which begin a path or bounds. Reads the rest of the path or bounds from
     /// the first stage on, and continues at the second stage.
     Nest(Prefix, Stage, Stage),
-    /// Opens the group and continues inside it at this stage.
+    /// Opens the group and continues inside the group at this stage.
     Open(Stage),
-    /// Closes the group and continues after it at this stage.
+    /// Closes the group and continues after the group at this stage.
     Close(Delimiter, Stage),
 }
 
@@ -250,13 +250,13 @@ pub(crate) struct Beginning<'t, 's> {
     pub spot: Spot<'t, 's>,
 }
 
-/// The beginning of a type, without its tokens.
+/// The beginning of a type, without the tokens of this beginning.
 #[derive(Clone, Copy)]
 pub(crate) enum FirstEntry {
-    /// A type that begins with these tokens and continues after them at this stage. The flag is
-    /// `true` if the tokens occur only in unsupported types.
+    /// A type that begins with these tokens and continues after the tokens at this stage. The flag
+    /// is `true` if the tokens occur only in unsupported types.
     Lead(bool, Prefix, Stage),
-    /// A type that begins with a group and continues inside it at this stage.
+    /// A type that begins with a group and continues inside the group at this stage.
     Open(Stage),
 }
 
@@ -269,7 +269,7 @@ pub(crate) enum StepFault {
     Mismatch(Span),
 }
 
-/// The action at a spot, or the reason why no action fits.
+/// The table entry for a spot, or the reason why no entry fits.
 pub(crate) type Next = Result<TableEntry, StepFault>;
 
 /// The beginning of a type, or the reason why no type begins.

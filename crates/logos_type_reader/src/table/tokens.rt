@@ -1,5 +1,5 @@
-//! Classifies the first tokens of a run. The functions for the grammar's stages call these
-//! functions.
+//! Contains functions that classify the first tokens of a run. Used by the other modules of
+//! `table`.
 
 ghost use Rattle.std.specs.Prelude.{◌≡◌};
 ghost use Rattle.logos_type_reader.specs.Views.{rest_of, tokens_of, mismatches, first_span, begins_colons, begins_mark, begins_arrow, begins_dots, begins_parenthesis, begins_bound, typing, continues, spot_of, Looks, first_text, begins_word, IsAction};
@@ -121,8 +121,8 @@ pub(super) fn is_typing(run: Tokens<'_, '_>) -> bool
     begins_mark(':', run) & !begins_colons(run)
 }
 
-/// Returns whether a run after a name continues a path. Such a run begins with `<`, `::` or
-/// parentheses.
+/// Returns whether a run continues the path whose name precedes the run: whether the run begins
+/// with `<`, `::` or parentheses.
 pub(super) fn continues(run: Tokens<'_, '_>) -> bool
     ensures { result ≡ continues (tokens_of run.entry) }
 {

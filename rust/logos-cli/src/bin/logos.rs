@@ -1,5 +1,5 @@
-//! The program `logos`, which prints the lexer of an enum or its state diagram, and lexes files
-//! with the lexer.
+//! The program `logos`, which prints the lexer of an enum or the state diagram of the lexer, and
+//! lexes files with the lexer.
 
 use std::process::ExitCode;
 

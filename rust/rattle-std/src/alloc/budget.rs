@@ -8,8 +8,8 @@ use super::AllocError;
 use core::fmt;
 use core::sync::atomic::{AtomicUsize, Ordering::Relaxed};
 
-/// The default budget of programs in bytes: 1 GiB. The variable `LOGOS_MEMORY` overrides this
-/// default.
+/// The default memory budget of a program, in bytes: 1 GiB. The environment variable `LOGOS_MEMORY`
+/// overrides this default.
 pub const DEFAULT_BUDGET: usize = 1 << 30;
 
 /// The name of the environment variable that overrides the default budget.
@@ -24,8 +24,9 @@ static IN_USE: AtomicUsize = AtomicUsize::new(0);
 
 /// Sets the maximum number of bytes in use, or removes the budget if `bytes` is `None`.
 ///
-/// The setting applies to the whole process, which starts without a budget. Earlier allocations are
-/// not counted, so programs call this function first.
+/// The setting applies to the whole process, which starts without a budget. Bytes that were
+/// allocated while there was no budget are not counted, so a program calls this function before it
+/// allocates.
 pub fn set_budget(bytes: Option<usize>) {
     BUDGET.store(bytes.unwrap_or(usize::MAX), Relaxed);
 }
@@ -60,7 +61,8 @@ pub fn budget_of(text: &str) -> Option<usize> {
     digits.parse::<usize>().ok()?.checked_mul(unit)
 }
 
-/// The error for a value of the variable `LOGOS_MEMORY` that is not a number of bytes.
+/// The error of a program whose environment variable `LOGOS_MEMORY` does not denote a number of
+/// bytes.
 #[derive(Clone, Copy, Debug, PartialEq, Eq)]
 pub struct BudgetError;
 

@@ -11,8 +11,8 @@ const RUN: usize = 512;
 
 /// A sorted set of values.
 ///
-/// The values are in a sorted vector that is divided into runs, so inserting a value moves few
-/// other values. No run is empty.
+/// The values are in a sorted vector that is divided into runs. Therefore, inserting a value moves
+/// only values of one run. No run is empty.
 pub struct BTreeSet<T> {
     runs: Vec<Vec<T>>,
     len: usize,

@@ -40,8 +40,9 @@ impl<E> Entries<E> {
         self.table.find(hash, |index| is_it(&self.list[index]))
     }
 
-    /// Appends an entry, whose key must be new, and returns its index. If memory runs out, returns
-    /// the entry in the error, and changes nothing.
+    /// Appends `entry`, and returns the index of the entry. The key of the entry must be new, and
+    /// `hash` must be the hash of the key. Returns `AllocFailed` with the entry if memory runs out.
+    /// In this case, the entries are unchanged.
     #[inline]
     fn push(&mut self, hash: u32, entry: E) -> Result<usize, AllocFailed<E>> {
         let index = self.list.len();
@@ -107,7 +108,8 @@ impl Table {
         None
     }
 
-    /// Stores the hash `hash` and the index `index` of an entry in an empty slot, which must exist.
+    /// Stores the hash `hash` and the index `index` of an entry in an empty slot. The table must
+    /// have an empty slot.
     fn set(&mut self, hash: u32, index: usize) {
         let mask = self.places.len() - 1;
         let mut at = hash as usize & mask;

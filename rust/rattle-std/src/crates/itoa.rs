@@ -46,7 +46,7 @@ fn pair(number: u32) -> [u8; 2] {
     PAIRS[number as usize]
 }
 
-/// Writes the decimal digits of `number`, which must be below 10,000, to the last of four bytes.
+/// Writes the decimal digits of `number`, which must be below 10,000, to the end of the four bytes.
 /// Returns the number of bytes before the digits.
 #[inline(always)]
 fn write_four(number: u32, [a, b, c, d]: [&mut u8; 4]) -> usize {
@@ -57,7 +57,7 @@ fn write_four(number: u32, [a, b, c, d]: [&mut u8; 4]) -> usize {
     write_two(number / 100, [a, b])
 }
 
-/// Writes the decimal digits of `number`, which must be below 100, to the last of two bytes.
+/// Writes the decimal digits of `number`, which must be below 100, to the end of the two bytes.
 /// Returns the number of bytes before the digits.
 #[inline(always)]
 fn write_two(number: u32, [a, b]: [&mut u8; 2]) -> usize {

@@ -7,8 +7,8 @@ use crate::vec::Vec;
 /// A writer of JSON that appends to a vector of bytes one token at a time.
 ///
 /// The writer adds the commas and the colons. The caller is responsible for the nesting. Each
-/// method returns `AllocError` if memory runs out. In this case, the method writes no part of its
-/// token.
+/// method that writes a token returns `AllocError` if memory runs out. In this case, no part of the
+/// token is written.
 #[derive(Debug)]
 pub struct Writer {
     out: Vec<u8>,

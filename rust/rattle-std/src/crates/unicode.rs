@@ -164,8 +164,8 @@ pub mod properties {
     use super::contains;
     use super::ranges::{ALPHABETIC, NUMBER};
 
-    /// The part of a character's general category that the crates need: whether the character is a
-    /// number.
+    /// A general category of characters. The crates need to know only whether a character is a
+    /// number, so all other categories are equal.
     #[derive(Clone, Copy, Debug, PartialEq, Eq)]
     pub struct GeneralCategory {
         is_number: bool,

@@ -24,13 +24,14 @@ impl Metadata {
         self.found.len()
     }
 
-    /// Returns the permissions of the file, as a value that can be changed.
+    /// Returns a copy of the permissions of the file. Changing the copy does not change the file.
     pub fn permissions(&self) -> Permissions {
         Permissions(self.found.permissions())
     }
 }
 
-/// Returns the metadata of the file at `path`, with links resolved.
+/// Returns the metadata of the file at `path`. If `path` is the path of a link, returns the
+/// metadata of the link's target.
 ///
 /// # Errors
 ///

@@ -10,8 +10,7 @@ pub type Result<T> = core::result::Result<T, Error>;
 #[derive(Clone, Copy, Debug)]
 pub struct Error {
     kind: ErrorKind,
-    /// The number that the system has for the error, or `None` if the system did not report the
-    /// error.
+    /// The system's number for the error, or `None` if the system did not report the error.
     code: Option<i32>,
 }
 
@@ -63,8 +62,8 @@ impl From<std::io::Error> for Error {
     }
 }
 
-/// The number that the system has for the error of links that form a cycle. Rust's error kind for
-/// such links is unstable.
+/// The system's number for the error of a path whose links form a cycle. The variant of Rust's
+/// `ErrorKind` for this error is unstable.
 const LINKS_LEAD_ROUND: i32 = if cfg!(any(target_os = "linux", target_os = "android")) {
     40
 } else if cfg!(windows) {
@@ -103,9 +102,9 @@ kinds! {
     PermissionDenied,
     /// The file already exists.
     AlreadyExists,
-    /// The file is a folder.
+    /// The file is a directory.
     IsADirectory,
-    /// A part of the path is not a folder.
+    /// A component of the path is not a directory.
     NotADirectory,
     /// A name is too long, or has invalid characters.
     InvalidFilename,
@@ -119,7 +118,7 @@ kinds! {
     FileTooLarge,
     /// The file system is read-only.
     ReadOnlyFilesystem,
-    /// The reader has closed its end.
+    /// The reading end of the pipe is closed.
     BrokenPipe,
     /// The call was interrupted, and can be repeated.
     Interrupted,

@@ -31,8 +31,8 @@ pub(super) mod plain {
         (u128::from_ne_bytes(a) | u128::from_ne_bytes(b)).to_ne_bytes()
     }
 
-    /// Returns each of `bytes`, shifted right by the number at its index in `by`. The numbers must
-    /// be below 8.
+    /// Returns `bytes`, each shifted right by the number of bits at its index in `by`. The numbers
+    /// in `by` must be below 8.
     #[inline(always)]
     pub fn shifted(bytes: [u8; 16], by: [u8; 16]) -> [u8; 16] {
         from_fn(|k| bytes[k] >> by[k])

@@ -1,4 +1,4 @@
-//! Runs the first program of the guide.
+//! Runs the first program in the guide.
 
 use std::process::ExitCode;
 

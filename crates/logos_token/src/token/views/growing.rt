@@ -1,5 +1,5 @@
-//! Builds token buffers tree by tree. The code that strips enums or copies types and callbacks
-//! calls this module.
+//! Methods that build a token buffer tree by tree. The code that strips enums calls them, and so
+//! does the code that copies types and callbacks.
 
 ghost use Rattle.std.specs.Prelude.{◌≡◌, ◌++◌, List, map, IfOk, OnOk};
 ghost use Rattle.logos_token.specs.ViewImports.{group, none, also, append, value_of, flat_token, stream_tokens, tree_of, inside_of};

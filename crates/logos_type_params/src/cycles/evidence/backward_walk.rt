@@ -15,8 +15,8 @@ struct Arrow {
 /// The state of the traversals against the edges.
 #[derive(Drop)]
 pub(crate) struct Backward {
-    /// The membership of each node. Once a node has been visited, its membership identifies its
-    /// component.
+    /// The membership of each node. Once a node has been visited, the membership identifies the
+    /// component of the node.
     pub(crate) memberships: Vec<Membership>,
     /// For each node, the edges that lead to it.
     arrows: Vec<Vec<Arrow>>,
@@ -26,8 +26,8 @@ pub(crate) struct Backward {
     order: Vec<usize>,
 }
 
-/// Adds each edge from the node `from` to a node in `list` to the incoming edges of that node.
-/// Numbers without a node are ignored.
+/// Records each edge from the node `from` to a node in `list` as an incoming edge of the second
+/// node. Numbers without a node are ignored.
 fn note_edges(arrows: &mut [Vec<Arrow>], from: usize, list: &[usize]) -> Result<(), AllocError> {
     for (edge, to) in list.iter().enumerate() {
         if let Some(row) = arrows.get_mut(*to) {
@@ -72,7 +72,7 @@ impl Backward {
     }
 
     /// Adds `node` to the component with the root `root` and the number `start`, unless the node
-    /// was visited before. `edge` is the index of the node's edge that leads closer to the root.
+    /// was visited before. `edge` is the index of the node's edge on a path to the root.
     fn membership(
         &mut self,
         node: usize,
@@ -130,7 +130,8 @@ impl Backward {
         Ok(())
     }
 
-    /// Traverses the graph against its edges from each unvisited node in `nodes`, in reverse order.
+    /// Traverses the graph against its edges from each unvisited node in `nodes`, beginning with
+    /// the last node.
     ///
     /// # Errors
     ///

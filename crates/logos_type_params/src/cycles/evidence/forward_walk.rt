@@ -4,7 +4,7 @@
 use crate::cycles::evidence::{Membership, meets};
 use std::alloc::{AllocError, Global};
 
-/// An unfinished node on the path.
+/// An unfinished node on the path of a traversal.
 #[derive(Clone, Copy)]
 struct PathNode {
     node: usize,
@@ -79,8 +79,8 @@ impl Forward {
         Ok(())
     }
 
-    /// Follows the next edge of `frame`, or finishes its node if no edge is left. `frame` was
-    /// removed from the end of the path.
+    /// Follows the next edge of the node in `frame`, or finishes the node if no edge is left.
+    /// `frame` must have been removed from the end of the path.
     fn step(&mut self, lists: &[Vec<usize>], frame: PathNode) -> Result<(), AllocError> {
         let Some(list) = lists.get(frame.node) else {
             return Ok(());
@@ -96,7 +96,7 @@ impl Forward {
         self.follow(frame.node, frame.next, *to)
     }
 
-    /// Takes at most `steps` steps, until the path is empty.
+    /// Takes steps until the path is empty, but at most `steps` steps.
     fn finish(&mut self, lists: &[Vec<usize>], steps: usize) -> Result<(), AllocError> {
         for _ in 0..steps {
             let Some(frame) = self.path.pop() else {
@@ -107,7 +107,8 @@ impl Forward {
         Ok(())
     }
 
-    /// Traverses the graph from each node that was not visited before, in order of the nodes.
+    /// Traverses the graph from each node that was not visited before, in ascending order of the
+    /// nodes' numbers.
     ///
     /// # Errors
     ///

@@ -7,8 +7,8 @@ use std::hash::RandomState;
 ///
 /// Each word is combined with the hash of the preceding words by exclusive or. The result is
 /// multiplied by a random number, and the halves of the product are combined by exclusive or. For
-/// the short keys of the crates, and for bytes that are hashed one at a time, this hash takes a
-/// fraction of the time of Rust's own hash.
+/// the short keys of the crates, and for bytes that are hashed one at a time, this hash is faster
+/// than the default hash of Rust's standard library.
 ///
 /// The initial value of the hash is also random, so that keys with equal hashes are hard to find.
 #[derive(Clone, Copy)]
