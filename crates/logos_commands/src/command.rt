@@ -10,17 +10,16 @@ use logos_options::OptionName;
 /// A command of `logos`, with the paths of its files.
 #[derive(Clone, Copy)]
 pub(super) enum Command<'w> {
-    /// The command `gen`, which prints the generated code for the enum in the file.
+    // `tools/completions.py` reads the docs of the variants.
+    /// `gen`: print the generated code for the enum in the file.
     Text { file: &'w str, config: Config },
-    /// The command `lex`, which prints the items that the lexer of the enum in the file finds in
-    /// the input.
+    /// `lex`: print the items that the lexer of the enum in the file finds in the input.
     Items(LexRequest<'w>),
-    /// The command `mermaid`, which prints the state diagram of the lexer of the enum in the file.
+    /// `mermaid`: print the state diagram of the lexer of the enum in the file.
     Diagram { file: &'w str },
-    /// The command `export`, which writes the state diagram to the file that the source names.
+    /// `export`: write the state diagram to the file that the source names.
     Export { file: &'w str },
-    /// The command `strip`, which prints the enum in the file without the attributes of the derive
-    /// macro.
+    /// `strip`: print the enum in the file without the attributes of the derive macro.
     Strip { file: &'w str },
 }
 
